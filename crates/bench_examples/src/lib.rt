@@ -1,0 +1,1 @@
+// The starred examples. Its definitions are in specs/; nothing runs here.

@@ -1,0 +1,5 @@
+pub mod Digits
+pub mod Sums
+pub mod Dots
+pub mod Ones
+pub mod Widths

@@ -1,0 +1,139 @@
+// Rows of bits: one word each, known above by their value alone.
+ghost use mathlib.Core.Path.{_≡_};
+ghost use Prim.Native.Nat.{_*_, _/_, _%_, _^_, _<_};
+ghost use lib.Dec.{eqb, ltb};
+ghost use Rattle.binar.specs.Bits.{_⊕_, bit as bitOf, dot as dotOf};
+ghost use Rattle.binar.specs.Rows.{val, width, unit as unitOf, lowest as lowestOf};
+
+pub struct Row {
+    word: u64,
+}
+
+pub fn zero() -> Row
+    ensures { λ r. ⌜ val r ≡ 0 ⌝ }
+{
+    Row { word: 0 }
+}
+
+pub fn of_word(w: u64) -> Row
+    ensures { λ r. ⌜ val r ≡ w ⌝ }
+{
+    Row { word: w }
+}
+
+// The lowest 64 columns.
+pub fn word_of(a: Row) -> u64
+    ensures { λ r. ⌜ r ≡ val a % 2 ^ 64 ⌝ }
+{
+    a.word
+}
+
+fn power(k: usize) -> u64
+    requires { ⌜ k < 64 ⌝ }
+    ensures { λ r. ⌜ r ≡ 2 ^ k ⌝ }
+{
+    1u64 << k
+}
+
+// Row k of the identity.
+pub fn unit(k: usize) -> Row
+    ensures { λ r. ⌜ val r ≡ unitOf k ⌝ }
+{
+    if k < 64 {
+        Row { word: power(k) }
+    } else {
+        Row { word: 0 }
+    }
+}
+
+pub fn sum(a: Row, b: Row) -> Row
+    ensures { λ r. ⌜ val r ≡ val a ⊕ val b ⌝ }
+{
+    Row {
+        word: a.word ^ b.word,
+    }
+}
+
+pub fn equal(a: Row, b: Row) -> bool
+    ensures { λ r. ⌜ r ≡ eqb (val a) (val b) ⌝ }
+{
+    a.word == b.word
+}
+
+pub fn less(a: Row, b: Row) -> bool
+    ensures { λ r. ⌜ r ≡ ltb (val a) (val b) ⌝ }
+{
+    a.word < b.word
+}
+
+pub fn is_zero(a: Row) -> bool
+    ensures { λ r. ⌜ r ≡ eqb (val a) 0 ⌝ }
+{
+    a.word == 0
+}
+
+pub fn bit(a: Row, k: usize) -> bool
+    ensures { λ r. ⌜ r ≡ bitOf k (val a) ⌝ }
+{
+    let w = a.word;
+    if k < 64 { (w >> k) % 2 == 1 } else { false }
+}
+
+// The parity of the ones that two rows share.
+pub fn dot(a: Row, b: Row) -> bool
+    ensures { λ r. ⌜ r ≡ dotOf (val a) (val b) ⌝ }
+{
+    let w = a.word & b.word;
+    u64::count_ones(w) % 2 == 1
+}
+
+// The column of the lowest one.
+pub fn lowest(a: Row) -> usize
+    ensures { λ r. ⌜ r ≡ lowestOf (val a) ⌝ }
+{
+    u64::trailing_zeros(a.word) as usize
+}
+
+// Whether no column from m on has a one.
+pub fn fits(a: Row, m: usize) -> bool
+    ensures { λ r. ⌜ r ≡ ltb (val a) (2 ^ m) ⌝ }
+{
+    let w = a.word;
+    if m < 64 { w < power(m) } else { true }
+}
+
+// The columns below k.
+pub fn low(a: Row, k: usize) -> Row
+    ensures { λ r. ⌜ val r ≡ val a % 2 ^ k ⌝ }
+{
+    let w = a.word;
+    if k < 64 {
+        Row { word: w % power(k) }
+    } else {
+        a
+    }
+}
+
+// Each column k lower.
+pub fn shift_down(a: Row, k: usize) -> Row
+    ensures { λ r. ⌜ val r ≡ val a / 2 ^ k ⌝ }
+{
+    let w = a.word;
+    if k < 64 {
+        Row { word: w >> k }
+    } else {
+        Row { word: 0 }
+    }
+}
+
+// Each column k higher; what passes the width is lost.
+pub fn shift_up(a: Row, k: usize) -> Row
+    ensures { λ r. ⌜ val r ≡ val a * 2 ^ k % 2 ^ width ⌝ }
+{
+    let w = a.word;
+    if k < 64 {
+        Row { word: w << k }
+    } else {
+        Row { word: 0 }
+    }
+}

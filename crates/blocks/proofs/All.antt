@@ -1,0 +1,38 @@
+-- Every member of a list: from member to member, through maps and through joined lists.
+-- Assumes nothing.
+use mathlib.Core.List.{List, [], _∷_, _++_, map}
+use Rattle.blocks.specs.Matrices.{All}
+
+pub All·map : {A : Type 0} {P Q : A → Type 0} → ((x : A) → P x → Q x) → (xs : List A) → All P xs → All Q xs
+All·map f [] h = tt
+All·map f (x ∷ xs) h = (f x (h .0), All·map f xs (h .1))
+
+pub All·map₂ : {A : Type 0} {P Q R : A → Type 0} → ((x : A) → P x → Q x → R x) → (xs : List A) → All P xs → All Q xs → All R xs
+All·map₂ f [] h k = tt
+All·map₂ f (x ∷ xs) h k = (f x (h .0) (k .0), All·map₂ f xs (h .1) (k .1))
+
+pub All·any : {A : Type 0} {P : A → Type 0} → ((x : A) → P x) → (xs : List A) → All P xs
+All·any f [] = tt
+All·any f (x ∷ xs) = (f x, All·any f xs)
+
+-- of a map's results, and of what they come from
+pub All·of-map : {A B : Type 0} (f : A → B) (P : B → Type 0) (xs : List A) → All P (map f xs) → All (λ x. P (f x)) xs
+All·of-map f P [] h = tt
+All·of-map f P (x ∷ xs) h = (h .0, All·of-map f P xs (h .1))
+
+pub All·to-map : {A B : Type 0} (f : A → B) (P : B → Type 0) (xs : List A) → All (λ x. P (f x)) xs → All P (map f xs)
+All·to-map f P [] h = tt
+All·to-map f P (x ∷ xs) h = (h .0, All·to-map f P xs (h .1))
+
+module _ {A : Type 0} (P : A → Type 0) where
+  pub All·append : (xs ys : List A) → All P xs → All P ys → All P (xs ++ ys)
+  All·append [] ys h k = k
+  All·append (x ∷ xs) ys h k = (h .0, All·append xs ys (h .1) k)
+
+  pub All·left : (xs ys : List A) → All P (xs ++ ys) → All P xs
+  All·left [] ys h = tt
+  All·left (x ∷ xs) ys h = (h .0, All·left xs ys (h .1))
+
+  pub All·right : (xs ys : List A) → All P (xs ++ ys) → All P ys
+  All·right [] ys h = h
+  All·right (x ∷ xs) ys h = All·right xs ys (h .1)

@@ -1,0 +1,4 @@
+pub mod All
+pub mod Products
+pub mod Units
+pub mod Values

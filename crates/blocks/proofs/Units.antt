@@ -1,0 +1,59 @@
+-- The unit rows: how many, where each stands, their bound, their parts, and what they make of a matrix.
+-- Assumes nothing.
+use mathlib.Core.Path.{_≡_, refl, sym, ap, ap₂, _∙_, fun-ext}
+use mathlib.Core.List.{List, [], _∷_, _++_, map, map-map, map-append}
+use Prim.Native.Nat.{ℕ, zero, suc, _+_, _*_, _^_, _<_}
+use native.Mathlib.Nat.{pow-suc, mul-one, one-mul, mul-assoc, zero-add, suc-add, le-of-suc-le-suc, not-suc-le-zero}
+use native.Mathlib.Omega.{arith}
+use lib.Pow.{pow-pos}
+use lib.ListN.{length, getD, length-map, List·getD-map}
+use Rattle.binar.specs.Bits.{odd, _⊕_}
+use Rattle.binar.proofs.Sums.{zero-sum}
+use Rattle.blocks.specs.Matrices.{times, matmul, units, All}
+use Rattle.blocks.proofs.All.{All·map, All·to-map}
+use Rattle.blocks.proofs.Products.{times-zero, times-double}
+
+pub units-length : (m : ℕ) → length (units m) ≡ m
+unfolding units
+units-length zero = refl
+units-length (suc m) = ap suc (length-map (units m) (λ u. u * 2) ∙ units-length m)
+
+pub units-at : (i m : ℕ) → i < m → getD (units m) i 0 ≡ 2 ^ i
+unfolding units
+units-at i zero h = absurd (not-suc-le-zero h)
+units-at zero (suc m) h = refl
+units-at (suc i) (suc m) h =
+    List·getD-map (λ u. u * 2) (units m) i 0 ∙ ap (λ u. u * 2) (units-at i m (le-of-suc-le-suc h)) ∙ sym (pow-suc 2 i)
+
+pub units-lt : (m : ℕ) → All (λ u. u < 2 ^ m) (units m)
+unfolding units
+units-lt zero = tt
+units-lt (suc m) = (omega (arith, pow-pos m), All·to-map (λ u. u * 2) (λ u. u < 2 ^ suc m) (units m) (All·map (λ u h. omega arith) (units m) (units-lt m)))
+
+by-one : (xs : List ℕ) → xs ≡ map (λ u. u * 2 ^ 0) xs
+by-one [] = refl
+by-one (x ∷ xs) = ap₂ _∷_ (sym (mul-one x)) (by-one xs)
+
+pub units-split : (n k : ℕ) → units (n + k) ≡ units n ++ map (λ u. u * 2 ^ n) (units k)
+unfolding units
+units-split zero k = ap units (zero-add k) ∙ by-one (units k)
+units-split (suc n) k =
+    ap units (suc-add n k)
+    ∙ ap (λ l. 1 ∷ l) (ap (map (λ u. u * 2)) (units-split n k) ∙ map-append (λ u. u * 2) (units n) (map (λ u. u * 2 ^ n) (units k))
+    ∙ ap (λ l. map (λ u. u * 2) (units n) ++ l) (map-map (λ u. u * 2) (λ u. u * 2 ^ n) (units k) ∙ ap (λ f. map f (units k)) (fun-ext (λ u. mul-assoc u (2 ^ n) 2 ∙ ap (λ t. u * t) (sym (pow-suc 2 n))))))
+
+-- one unit more, at the end
+pub units-snoc : (m : ℕ) → units (m + 1) ≡ units m ++ (2 ^ m ∷ [])
+unfolding units
+units-snoc m = units-split m 1 ∙ ap (λ t. units m ++ (t ∷ [])) (one-mul (2 ^ m))
+
+pub times-units : (M : List ℕ) → map (λ u. times u M) (units (length M)) ≡ M
+unfolding times units odd
+times-units [] = refl
+times-units (v ∷ M) =
+    ap₂ _∷_ (ap (λ t. t ⊕ v) (times-zero M) ∙ zero-sum v)
+    (map-map (λ u. times u (v ∷ M)) (λ u. u * 2) (units (length M)) ∙ ap (λ f. map f (units (length M))) (fun-ext (λ u. times-double u v M)) ∙ times-units M)
+
+pub matmul-units : (M : List ℕ) → matmul (units (length M)) M ≡ M
+unfolding matmul
+matmul-units M = times-units M

@@ -1,0 +1,179 @@
+-- The values of rows in a list; the rows of a block read, written, pushed, taken out and exchanged; rows laid into lent words.
+-- Assumes nothing.
+use mathlib.Core.Path.{_≡_, refl, sym, ap, ap₂, _∙_}
+use mathlib.Core.Bool.{Bool, _&&_}
+use mathlib.Core.List.{List, [], _∷_, _++_, map, append-nil}
+use Prim.Native.Nat.{ℕ, zero, suc, _+_, _≤_, _<_, min}
+use native.Mathlib.Nat.{le-of-suc-le-suc, not-suc-le-zero}
+use native.Mathlib.Numerals.{add-one}
+use native.Mathlib.Omega.{arith}
+use lib.ListN.{getD, set, length, take, drop, length-map, length-append, length-take, length-drop, drop-of-length-le}
+use lib.Seq.{take-all, take-length, take-nil, take-at, take-suc, take-suc-set, drop-set-lt, set-at, drop-cons, getD-take, append-snoc, length-take-le}
+use lib.Dec.{ltb}
+use borrow.Author.Tests.{lt-ltb, le-ltb}
+use Rattle.binar.specs.declared.Row.{Row}
+use Rattle.binar.specs.Bits.{select}
+use Rattle.binar.specs.Rows.{val, blank}
+use Rattle.binar.proofs.Widths.{val-blank}
+use Rattle.blocks.specs.declared.Block.{Block}
+use Rattle.blocks.specs.Blocks.{room, vals, rowsOf}
+use Rattle.blocks.specs.Matrices.{without, exchanged}
+use Rattle.blocks.specs.Words.{wordsOfRows, laid}
+
+-- ---- values
+
+pub vals-get : (l : List Row) (i : ℕ) → val (getD l i blank) ≡ getD (vals l) i 0
+unfolding vals
+vals-get [] i = val-blank
+vals-get (x ∷ l) zero = refl
+vals-get (x ∷ l) (suc i) = vals-get l i
+
+pub vals-set : (l : List Row) (i : ℕ) (v : Row) → vals (set l i v) ≡ set (vals l) i (val v)
+unfolding vals
+vals-set [] i v = refl
+vals-set (x ∷ l) zero v = refl
+vals-set (x ∷ l) (suc i) v = ap (λ (m : List ℕ). val x ∷ m) (vals-set l i v)
+
+pub vals-length : (l : List Row) → length (vals l) ≡ length l
+unfolding vals
+vals-length l = length-map l val
+
+-- the length of an array of structs, from that of the list mapped to what stands for its elements
+pub unmapped : {X Y : Type 0} (f : X → Y) (l : List X) (n : ℕ) → length (map f l) ≡ n → length l ≡ n
+unmapped f l n p = sym (length-map l f) ∙ p
+
+-- ---- the rows of a block
+
+pub rows-length : (b : Block) → length (b .rows) ≡ 65 → length (rowsOf b) ≡ min (b .count) 65
+unfolding rowsOf
+rows-length b h = length-take (b .count) (vals (b .rows)) ∙ ap (min (b .count)) (vals-length (b .rows) ∙ h)
+
+pub rows-fit : (b : Block) → length (b .rows) ≡ 65 → length (rowsOf b) ≤ 65
+rows-fit b h = omega (arith, rows-length b h)
+
+pub rows-get : (b : Block) (i : ℕ) → i < length (rowsOf b) → val (getD (b .rows) i blank) ≡ getD (rowsOf b) i 0
+unfolding rowsOf
+rows-get b i h =
+    vals-get (b .rows) i ∙ sym (getD-take (b .count) (vals (b .rows)) i 0 (below (b .count) (vals (b .rows)) h))
+  where
+    below : (n : ℕ) (l : List ℕ) → i < length (take n l) → i < n
+    below n l k = omega (arith, k, length-take n l)
+
+take-set : (n : ℕ) (l : List ℕ) (i v : ℕ) → take n (set l i v) ≡ set (take n l) i v
+take-set zero l i v = refl
+take-set (suc n) [] i v = refl
+take-set (suc n) (x ∷ l) zero v = refl
+take-set (suc n) (x ∷ l) (suc i) v = ap (λ (m : List ℕ). x ∷ m) (take-set n l i v)
+
+-- a row written, inside or past the count
+pub rows-set : (l : List Row) (n i : ℕ) (v : Row) → take n (vals (set l i v)) ≡ set (take n (vals l)) i (val v)
+rows-set l n i v = ap (take n) (vals-set l i v) ∙ take-set n (vals l) i (val v)
+
+-- a count by the length of what it counts
+pub take-counted : (n : ℕ) (l : List ℕ) → take (length (take n l)) l ≡ take n l
+take-counted zero l = refl
+take-counted (suc n) [] = refl
+take-counted (suc n) (x ∷ l) = ap (λ (m : List ℕ). x ∷ m) (take-counted n l)
+
+-- one row more behind those that there are, and what there is no room for
+pub push-more : (b : Block) (k : ℕ) (v : Row) → length (b .rows) ≡ 65 → k ≡ length (rowsOf b) → k < 65 → take (k + 1) (vals (set (b .rows) k v)) ≡ take room (rowsOf b ++ (val v ∷ []))
+unfolding rowsOf room
+push-more b k v long e h =
+    let l = vals (b .rows) in
+    let n = take (b .count) l in
+    ap₂ take (add-one k) (vals-set (b .rows) k v)
+    ∙ take-suc-set l k (val v) (omega (arith, vals-length (b .rows)))
+    ∙ ap (λ (m : List ℕ). m ++ (val v ∷ [])) (ap (λ (j : ℕ). take j l) e ∙ take-counted (b .count) l)
+    ∙ sym (take-all 65 (n ++ (val v ∷ [])) (omega (arith, length-append n (val v ∷ []))))
+
+pub push-full : (b : Block) (v : Row) → length (rowsOf b) ≡ 65 → rowsOf b ≡ take room (rowsOf b ++ (val v ∷ []))
+unfolding room
+push-full b v e = sym (take-at (rowsOf b) (val v ∷ []) 65 e)
+
+pub push-fits : (l : List ℕ) (v : ℕ) → length l < 65 → take room (l ++ (v ∷ [])) ≡ l ++ (v ∷ [])
+unfolding room
+push-fits l v h = take-all 65 (l ++ (v ∷ [])) (omega (arith, length-append l (v ∷ [])))
+
+-- ---- a member taken out
+
+-- moving the next member down takes it out in place of this one
+pub without-next : (l : List ℕ) (j : ℕ) → suc j < length l → without (suc j) (set l j (getD l (suc j) 0)) ≡ without j l
+unfolding without
+without-next l j h =
+    let x = getD l (suc j) 0 in
+    ap₂ (λ (m n : List ℕ). m ++ n) (take-suc-set l j x (omega arith)) (drop-set-lt (suc (suc j)) l j x (omega arith))
+    ∙ append-snoc (take j l) x (drop (suc (suc j)) l) ∙ ap (λ (m : List ℕ). take j l ++ m) (sym (drop-cons l (suc j) 0 h))
+
+-- the front of what is left is what is left of the front
+pub without-take : (i k : ℕ) (l : List ℕ) → i ≤ k → take k (without i l) ≡ without i (take (suc k) l)
+unfolding without
+without-take zero k [] h = take-nil k
+without-take zero k (x ∷ l) h = refl
+without-take (suc i) zero l h = absurd (not-suc-le-zero h)
+without-take (suc i) (suc k) [] h = refl
+without-take (suc i) (suc k) (x ∷ l) h = ap (λ (m : List ℕ). x ∷ m) (without-take i k l (le-of-suc-le-suc h))
+
+pub take-without : (j : ℕ) (l : List ℕ) → take j (without j l) ≡ take j l
+unfolding without
+take-without zero l = refl
+take-without (suc j) [] = refl
+take-without (suc j) (x ∷ l) = ap (λ (m : List ℕ). x ∷ m) (take-without j l)
+
+pub without-move : (l : List Row) (j : ℕ) → j + 1 < length l → without (j + 1) (vals (set l j (getD l (j + 1) blank))) ≡ without j (vals l)
+without-move l j h =
+    ap₂ (λ (k : ℕ) (m : List ℕ). without k m) (add-one j)
+    (vals-set l j (getD l (j + 1) blank) ∙ ap (set (vals l) j) (vals-get l (j + 1) ∙ ap (λ (k : ℕ). getD (vals l) k 0) (add-one j)))
+    ∙ without-next (vals l) j (omega (arith, vals-length l))
+
+pub without-end : (i j k : ℕ) (l m : List ℕ) → i ≤ j → k ≡ suc j → without j m ≡ without i l → take j m ≡ without i (take k l)
+without-end i j k l m h e inv =
+    sym (take-without j m) ∙ ap (take j) inv ∙ without-take i j l h ∙ ap (λ (n : ℕ). without i (take n l)) (sym e)
+
+pub without-past : (i : ℕ) (l : List ℕ) → length l ≤ i → without i l ≡ l
+unfolding without
+without-past i l h = ap₂ (λ (m n : List ℕ). m ++ n) (take-all i l h) (drop-of-length-le l {i = suc i} (omega arith)) ∙ append-nil l
+
+-- ---- two members exchanged
+
+pub exchanged-in : (i j : ℕ) (l : List ℕ) → i < length l → j < length l → exchanged i j l ≡ set (set l i (getD l j 0)) j (getD l i 0)
+unfolding exchanged
+exchanged-in i j l h g = ap₂ (λ (s t : Bool). select l (s && t) (set (set l i (getD l j 0)) j (getD l i 0))) (lt-ltb i (length l) h) (lt-ltb j (length l) g)
+
+pub exchanged-out : (i j : ℕ) (l : List ℕ) → length l ≤ i → exchanged i j l ≡ l
+unfolding exchanged
+exchanged-out i j l h = ap (λ (s : Bool). select l (s && ltb j (length l)) (set (set l i (getD l j 0)) j (getD l i 0))) (le-ltb i (length l) h)
+
+pub exchanged-out-r : (i j : ℕ) (l : List ℕ) → i < length l → length l ≤ j → exchanged i j l ≡ l
+unfolding exchanged
+exchanged-out-r i j l g h = ap₂ (λ (s t : Bool). select l (s && t) (set (set l i (getD l j 0)) j (getD l i 0))) (lt-ltb i (length l) g) (le-ltb j (length l) h)
+
+-- ---- rows laid into words
+
+pub laid-fits : (rows out : List ℕ) → length (wordsOfRows rows) ≤ length out → laid rows out ≡ rows ++ drop (length rows) out
+unfolding laid wordsOfRows
+laid-fits rows out h =
+    take-all (length out) (rows ++ drop (length rows) out) (omega (arith, length-append rows (drop (length rows) out), length-drop (length rows) out))
+
+pub laid-length : (rows out : List ℕ) → length (laid rows out) ≡ length out
+unfolding laid wordsOfRows
+laid-length rows out =
+    length-take (length out) (rows ++ drop (length rows) out)
+    ∙ omega (arith, length-append rows (drop (length rows) out), length-drop (length rows) out)
+
+-- one row more is laid
+pub laid-more : (m l : List ℕ) (i : ℕ) → i < length m → i < length l → set (take i m ++ drop i l) i (getD m i 0) ≡ take (i + 1) m ++ drop (i + 1) l
+laid-more m l i hm hl =
+    let n : length (take i m) ≡ i = length-take-le i m (omega arith) in
+    ap (λ (x : List ℕ). set (take i m ++ x) i (getD m i 0)) (drop-cons l i 0 hl) ∙ set-at (take i m) (getD l i 0) (drop (suc i) l) (getD m i 0) i n
+    ∙ sym (append-snoc (take i m) (getD m i 0) (drop (suc i) l))
+    ∙ ap₂ (λ (x y : List ℕ). x ++ y) (sym (ap (λ (k : ℕ). take k m) (add-one i) ∙ take-suc m i 0 hm)) (ap (λ (k : ℕ). drop k l) (sym (add-one i)))
+
+-- as many rows laid as there are, or as there are words
+pub laid-end : (rows out : List ℕ) (k : ℕ) → k ≡ min (length rows) (length out) → take k rows ++ drop k out ≡ laid rows out
+unfolding laid wordsOfRows
+laid-end [] out zero e = sym (take-length out)
+laid-end [] out (suc k) e = absurd (omega arith)
+laid-end (r ∷ rows) [] zero e = refl
+laid-end (r ∷ rows) [] (suc k) e = absurd (omega arith)
+laid-end (r ∷ rows) (w ∷ out) zero e = absurd (omega arith)
+laid-end (r ∷ rows) (w ∷ out) (suc k) e = ap (λ (m : List ℕ). r ∷ m) (laid-end rows out k (omega arith))

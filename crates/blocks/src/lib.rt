@@ -1,0 +1,177 @@
+// Blocks of rows, by value: room for 65 rows, and a count.
+use binar::Row;
+ghost use mathlib.Core.Path.{_≡_};
+ghost use mathlib.Core.List.{[], _∷_, _++_};
+ghost use Prim.Native.Nat.{_+_, _≤_, _<_, min};
+ghost use lib.ListN.{getD, set, take, length};
+ghost use Rattle.binar.specs.Rows.{val, width};
+ghost use Rattle.blocks.specs.Blocks.{room, vals, rowsOf};
+ghost use Rattle.blocks.specs.Matrices.{times as timesOf, matmul, units, without, exchanged};
+ghost use Rattle.blocks.specs.Words.{rowsOfWords, laid};
+
+pub struct Block {
+    pub rows: [Row; 65],
+    pub count: usize,
+}
+
+fn lesser(m: usize, n: usize) -> usize
+    ensures { λ r. ⌜ r ≡ min m n ⌝ }
+{
+    if m < n { m } else { n }
+}
+
+// How many rows a block has.
+pub fn length_of(b: Block) -> usize
+    ensures { λ r. ⌜ r ≡ length (rowsOf b) ⌝ }
+{
+    lesser(b.count, 65)
+}
+
+pub fn empty() -> Block
+    ensures { λ r. ⌜ rowsOf r ≡ [] ⌝ }
+{
+    let z = binar::zero();
+    Block {
+        rows: [z; 65],
+        count: 0,
+    }
+}
+
+pub fn get(b: Block, i: usize) -> Row
+    ensures { λ r. ⌜ val r ≡ getD (rowsOf b) i 0 ⌝ }
+{
+    if i < length_of(b) {
+        b.rows[i]
+    } else {
+        binar::zero()
+    }
+}
+
+pub fn put(b: Block, i: usize, v: Row) -> Block
+    ensures { λ r. ⌜ rowsOf r ≡ set (rowsOf b) i (val v) ⌝ }
+{
+    if i < 65 {
+        let mut n = b;
+        n.rows[i] = v;
+        n
+    } else {
+        b
+    }
+}
+
+// The row behind the others, where there is room.
+pub fn push(b: Block, v: Row) -> Block
+    ensures { λ r. ⌜ rowsOf r ≡ take room (rowsOf b ++ (val v ∷ [])) ⌝ }
+{
+    let k = length_of(b);
+    if k < 65 {
+        let mut n = b;
+        n.rows[k] = v;
+        n.count = k + 1;
+        n
+    } else {
+        b
+    }
+}
+
+// The first k rows but for row i: those behind it move down by one.
+fn closed(b: Block, i: usize, k: usize) -> Block
+    requires { ⌜ (i < k) × (k ≤ 65) ⌝ }
+    ensures { λ r. ⌜ rowsOf r ≡ without i (take k (vals (b .rows))) ⌝ }
+{
+    let mut n = b;
+    let last = k - 1;
+    for j in i..last {
+        n.rows[j] = n.rows[j + 1];
+    }
+    n.count = last;
+    n
+}
+
+pub fn remove(b: Block, i: usize) -> Block
+    ensures { λ r. ⌜ rowsOf r ≡ without i (rowsOf b) ⌝ }
+{
+    let k = length_of(b);
+    if i < k { closed(b, i, k) } else { b }
+}
+
+pub fn exchange(b: Block, i: usize, j: usize) -> Block
+    ensures { λ r. ⌜ rowsOf r ≡ exchanged i j (rowsOf b) ⌝ }
+{
+    let k = length_of(b);
+    if i < k {
+        if j < k {
+            let x = get(b, i);
+            let y = get(b, j);
+            let n = put(b, i, y);
+            return put(n, j, x);
+        }
+    }
+    b
+}
+
+pub fn identity(m: usize) -> Block
+    ensures { λ r. ⌜ rowsOf r ≡ units (min m width) ⌝ }
+{
+    let k = lesser(m, 64);
+    let mut n = empty();
+    for i in 0..k {
+        n = push(n, binar::unit(i));
+    }
+    n
+}
+
+// The sum of the rows that c has ones for.
+pub fn times(c: Row, b: Block) -> Row
+    ensures { λ r. ⌜ val r ≡ timesOf (val c) (rowsOf b) ⌝ }
+{
+    let k = length_of(b);
+    let mut w = binar::zero();
+    let mut bits = binar::low(c, k);
+    while !binar::is_zero(bits) {
+        let t = binar::lowest(bits);
+        w = binar::sum(w, b.rows[t]);
+        bits = binar::sum(bits, binar::unit(t));
+    }
+    w
+}
+
+pub fn product(a: Block, b: Block) -> Block
+    ensures { λ r. ⌜ rowsOf r ≡ matmul (rowsOf a) (rowsOf b) ⌝ }
+{
+    let k = length_of(a);
+    let mut n = empty();
+    for i in 0..k {
+        n = push(n, times(a.rows[i], b));
+    }
+    n
+}
+
+// The rows that lent words hold.
+pub fn load(words: &[u64]) -> Block
+    ensures { λ r. ⌜ rowsOf r ≡ take room (rowsOfWords (now (words .entry))) ⌝ }
+{
+    let k = lesser(65, words.len());
+    let mut n = empty();
+    for i in 0..k {
+        n = push(n, binar::of_word(words[i]));
+    }
+    n
+}
+
+// The word that a row takes.
+fn word(a: Row) -> u64
+    ensures { λ r. ⌜ r ≡ val a ⌝ }
+{
+    binar::word_of(a)
+}
+
+// Lays the rows into lent words.
+pub fn store(b: Block, out: &mut [u64])
+    ensures { λ r. ⌜ now (out .exit) ≡ laid (rowsOf b) (now (out .entry)) ⌝ }
+{
+    let k = lesser(length_of(b), out.len());
+    for i in 0..k {
+        out[i] = word(b.rows[i]);
+    }
+}

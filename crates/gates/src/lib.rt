@@ -1,0 +1,1 @@
+// Gate sequences. Its definitions are in specs/; nothing runs here.

@@ -1,0 +1,71 @@
+-- A line of the printout, byte by byte.
+-- Assumes nothing.
+use mathlib.Core.Bool.{Bool, true, false, cond}
+use mathlib.Core.List.{List, [], _∷_, _++_}
+use Prim.Native.Nat.{ℕ, zero, suc, _+_, _/_, _%_}
+use lib.Dec.{ltb}
+use lib.ListN.{take}
+use Rattle.binar.specs.Bits.{bit, weight}
+use Rattle.blocks.specs.Words.{rowsOfWords}
+use Rattle.symplectic.specs.Replies.{Reply}
+
+-- a number in decimal: at most one digit more than the first number says
+unfoldable pub decimalIn : ℕ → ℕ → List ℕ
+decimalIn zero v = (48 + v % 10) ∷ []
+decimalIn (suc k) v = let high = decimalIn k (v / 10) in cond (ltb v 10) ((48 + v) ∷ []) (high ++ ((48 + v % 10) ∷ []))
+
+unfoldable pub decimal : ℕ → List ℕ
+decimal v = decimalIn v v
+
+-- the letter of a qubit with bits x and z: I, Z, X, Y
+abbrev pub letter : Bool → Bool → ℕ
+letter false false = 73
+letter false true = 90
+letter true false = 88
+letter true true = 89
+
+-- k qubits of a vector of n from qubit q on
+unfoldable pub lettersFrom : ℕ → ℕ → ℕ → ℕ → List ℕ
+lettersFrom n v zero q = []
+lettersFrom n v (suc k) q = letter (bit q v) (bit (n + q) v) ∷ lettersFrom n v k (suc q)
+
+-- a vector as n letters, qubit 0 first
+unfoldable pub letters : ℕ → ℕ → List ℕ
+letters n v = lettersFrom n v n 0
+
+-- load: the count of ones in the listed vectors
+unfoldable pub load : List ℕ → ℕ
+load [] = 0
+load (v ∷ vs) = weight v + load vs
+
+abbrev pub space : ℕ
+space = 32
+
+abbrev pub newline : ℕ
+newline = 10
+
+-- each vector, after a space
+unfoldable pub spelled : ℕ → List ℕ → List ℕ
+spelled n [] = []
+spelled n (v ∷ vs) = space ∷ (letters n v ++ spelled n vs)
+
+-- a number, after a space
+abbrev pub field : ℕ → List ℕ
+field v = space ∷ decimal v
+
+-- `min` and `greedy`
+abbrev pub minName : List ℕ
+minName = 109 ∷ 105 ∷ 110 ∷ []
+
+abbrev pub greedyName : List ℕ
+greedyName = 103 ∷ 114 ∷ 101 ∷ 101 ∷ 100 ∷ 121 ∷ []
+
+-- entry number, name, refusal, vector count, load, looks, then each vector; a refused line has count and load 0, no letters
+unfoldable pub line : ℕ → ℕ → List ℕ → Reply → List ℕ
+line n i name reply =
+    let vs = take (reply .count) (rowsOfWords (reply .words)) in
+    decimal i ++ (space ∷ name) ++ field (reply .number) ++ field (reply .count) ++ field (load vs) ++ field (reply .looks) ++ spelled n vs ++ (newline ∷ [])
+
+-- a refused file prints only `file` and the number
+unfoldable pub fileLine : ℕ → List ℕ
+fileLine number = 102 ∷ 105 ∷ 108 ∷ 101 ∷ field number ++ (newline ∷ [])

@@ -1,0 +1,62 @@
+-- The whole printout of a job file: two lines an entry, in order.
+-- Assumes nothing.
+use mathlib.Core.List.{List, [], _∷_, _++_}
+use Prim.Native.Nat.{ℕ, zero, suc, _+_, _*_}
+use lib.ListN.{take, drop, replicate}
+use Rattle.symplectic.specs.Replies.{Reply, refused}
+use Rattle.gates.specs.Sequences.{gatesReply}
+use Rattle.transvection.specs.Greedy.{greedyReply}
+use Rattle.transvection_exact.specs.Minimal.{minimalReply}
+use Rattle.job.specs.Files.{littleEndian, part, qubitCount, entryCount, Entry, entry, partSize, fileQuestions}
+use Rattle.job.specs.Lines.{minName, greedyName, line, fileLine}
+
+-- the program's budget
+abbrev pub jobBudget : ℕ
+jobBudget = 1000000
+
+-- the lent output words of the program's own calls
+abbrev pub blankWords : ℕ → List ℕ
+blankWords k = replicate k 0
+
+-- k words of 8 bytes
+unfoldable pub wordsOfBytes : ℕ → List ℕ → List ℕ
+wordsOfBytes zero bytes = []
+wordsOfBytes (suc k) bytes = littleEndian (take 8 bytes) ∷ wordsOfBytes k (drop 8 bytes)
+
+-- the answer that holds an entry's action: given, or made from its gates
+abbrev pub actionBy : ℕ → ℕ → ℕ → List ℕ → Reply
+actionBy zero n count bytes = record { number = 0; count = count; looks = 0; words = wordsOfBytes count bytes }
+actionBy (suc kind) n count bytes = gatesReply n bytes (blankWords (n + n))
+
+unfoldable pub entryAction : List ℕ → Entry → Reply
+entryAction file e = actionBy (e .kind) (qubitCount file) (e .count) (part file (e .offset) (partSize e))
+
+-- a refused gate sequence puts its number on both lines
+abbrev pub unlessRefusedAction : Reply → (List ℕ → Reply) → ℕ → Reply
+unlessRefusedAction action call zero = call (action .words)
+unlessRefusedAction action call (suc number) = refused (suc number) 0 []
+
+unfoldable pub minLine : List ℕ → ℕ → List ℕ
+minLine file i =
+    let n = qubitCount file in
+    let action = entryAction file (entry file i) in
+    line n i minName (unlessRefusedAction action (λ rows. minimalReply n rows jobBudget (blankWords (n + n + 1))) (action .number))
+
+unfoldable pub greedyLine : List ℕ → ℕ → List ℕ
+greedyLine file i =
+    let n = qubitCount file in
+    let action = entryAction file (entry file i) in
+    line n i greedyName (unlessRefusedAction action (λ rows. greedyReply n rows (blankWords (4 * n + 2))) (action .number))
+
+-- the lines of k entries from entry i on
+unfoldable pub entryLines : List ℕ → ℕ → ℕ → List ℕ
+entryLines file zero i = []
+entryLines file (suc k) i = minLine file i ++ greedyLine file i ++ entryLines file k (suc i)
+
+abbrev pub printed : ℕ → List ℕ → List ℕ
+printed zero file = entryLines file (entryCount file) 0
+printed (suc number) file = fileLine (suc number)
+
+-- all entries pass before anything is printed
+unfoldable pub printout : List ℕ → List ℕ
+printout file = printed (fileQuestions file) file

@@ -1,0 +1,4 @@
+pub mod Space
+pub mod Span
+pub mod Maps
+pub mod Triangular

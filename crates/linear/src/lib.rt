@@ -1,0 +1,1 @@
+// Nothing runs here: the theory of spaces over two elements.

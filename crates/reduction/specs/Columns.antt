@@ -1,0 +1,77 @@
+-- The reduction of a list of rows by columns, ascending: the first row at or below the pivot row that has the bit is exchanged up, then cleared from every other row.
+-- The rows are of any type with a sum, so that rows of a matrix and rows with their rows of the transform are reduced by the same steps.
+-- Assumes nothing.
+use mathlib.Core.Bool.{Bool, true, false}
+use mathlib.Core.List.{List, [], _∷_, _++_, map, zip}
+use Prim.Native.Nat.{ℕ, zero, suc}
+use lib.Count.{trailingZeros}
+use lib.ListN.{length}
+use Rattle.binar.specs.Bits.{select, bit, _⊕_}
+use Rattle.blocks.specs.Matrices.{units}
+use Rattle.symplectic.specs.Picks.{addBoth}
+
+-- the row that is exchanged up, and the rows that are then below it
+pub data Pulled (A : Type 0) : Type 0 where
+  nothing : Pulled A
+  pulled : A → List A → Pulled A
+
+abbrev pub behind : {A : Type 0} → A → Pulled A → Pulled A
+behind u nothing = nothing
+behind u (pulled x rest) = pulled x (u ∷ rest)
+
+-- row t takes the place of the first row that has the bit
+abbrev pub putIf : {A : Type 0} → Bool → A → A → List A → Pulled A → Pulled A
+putIf true t u us later = pulled u (t ∷ us)
+putIf false t u us later = behind u later
+
+abbrev pub put : {A : Type 0} → (A → Bool) → A → List A → Pulled A
+put has t [] = nothing
+put has t (u ∷ us) = putIf (has u) t u us (put has t us)
+
+-- the first row that has the bit, exchanged with the first row
+abbrev pub pullIf : {A : Type 0} → Bool → A → List A → Pulled A → Pulled A
+pullIf true t ts later = pulled t ts
+pullIf false t ts later = later
+
+abbrev pub pull : {A : Type 0} → (A → Bool) → List A → Pulled A
+pull has [] = nothing
+pull has (t ∷ ts) = pullIf (has t) t ts (put has t ts)
+
+-- the rows above the pivot row, and those from it down
+pub record Halves (A : Type 0) : Type 0 where
+  pub up : List A
+  pub down : List A
+
+module _ {A : Type 0} (o : A) (add : A → A → A) where
+  -- row y, with x added where y has the bit
+  abbrev pub clear : (A → Bool) → A → A → A
+  clear has x y = add y (select o (has y) x)
+
+  abbrev pub columnBy : (A → Bool) → Halves A → Pulled A → Halves A
+  columnBy has h nothing = h
+  columnBy has h (pulled x rest) = record { up = map (clear has x) (h .up) ++ (x ∷ []); down = map (clear has x) rest }
+
+  abbrev pub column : (A → Bool) → Halves A → Halves A
+  column has h = columnBy has h (pull has (h .down))
+
+  -- the columns c, c + 1, .. k of them
+  unfoldable pub columns : (ℕ → A → Bool) → ℕ → ℕ → Halves A → Halves A
+  columns has zero c h = h
+  columns has (suc k) c h = columns has k (suc c) (column (has c) h)
+
+-- the rows of a matrix reduced by its first m columns
+unfoldable pub reduced : ℕ → List ℕ → Halves ℕ
+reduced m M = columns 0 _⊕_ bit m 0 (record { up = []; down = M })
+
+-- how many rows stand above the pivot row at the end
+unfoldable pub rank : ℕ → List ℕ → ℕ
+rank m M = length (reduced m M .up)
+
+-- the same steps on the rows and on the identity: each row beside its row of the transform
+unfoldable pub rowReduceWithTransform : ℕ → List ℕ → Halves (ℕ × ℕ)
+rowReduceWithTransform m M =
+    columns (0, 0) addBoth (λ c a. bit c (a .0)) m 0 (record { up = []; down = zip M (units (length M)) })
+
+-- the columns that carried the rank: where each basis row of m columns has its first one
+unfoldable pub pivots : ℕ → List ℕ → List ℕ
+pivots m B = map (trailingZeros m) B

@@ -1,0 +1,5 @@
+pub mod Turns
+pub mod Picks
+pub mod Actions
+pub mod Replies
+pub mod Rebuilt

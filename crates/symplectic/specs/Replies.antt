@@ -1,0 +1,65 @@
+-- What a call answers, and the questions that list calls share.
+-- Assumes nothing.
+use mathlib.Core.Bool.{Bool, true, false}
+use mathlib.Core.List.{List}
+use Prim.Native.Nat.{ℕ, zero, suc, _+_, _^_}
+use lib.Dec.{leb, ltb, eqb}
+use lib.ListN.{length}
+use Rattle.blocks.specs.Words.{laid}
+use Rattle.symplectic.specs.Actions.{maxQubits}
+use Rattle.symplectic.specs.Turns.{allOf, symplectic}
+
+-- a call's whole answer
+pub record Reply : Type 0 where
+  -- 0 for an answer, else the number of the question that was answered no
+  pub number : ℕ
+  -- how many vectors or rows were listed
+  pub count : ℕ
+  -- how many draws (document 01: looks) the search took
+  pub looks : ℕ
+  -- the lent output words as the call leaves them
+  pub words : List ℕ
+
+-- a refusal has count 0 and leaves the lent words unchanged
+unfoldable pub refused : ℕ → ℕ → List ℕ → Reply
+refused number looks out = record { number = number; count = 0; looks = looks; words = out }
+
+-- an answer stands in the lent words from their start; words past it are unchanged
+unfoldable pub listed : List ℕ → ℕ → List ℕ → Reply
+listed vs looks out = record { number = 0; count = length vs; looks = looks; words = laid vs out }
+
+-- the first no gives its number; 0 where every question is passed
+abbrev pub ask : Bool → ℕ → ℕ → ℕ
+ask true number later = later
+ask false number later = number
+
+-- the questions of one kind, then those of another
+abbrev pub andThen : ℕ → ℕ → ℕ
+andThen zero later = later
+andThen (suc number) later = suc number
+
+-- the answer where every question is passed, else the refusal
+abbrev pub unlessRefused : ℕ → List ℕ → Reply → Reply
+unlessRefused zero out answer = answer
+unlessRefused (suc number) out answer = refused (suc number) 0 out
+
+-- each row is free of bits from m up
+unfoldable pub fitAll : ℕ → List ℕ → Bool
+fitAll m rows = allOf (λ v. ltb v (2 ^ m)) rows
+
+-- 1: is n at most 32?
+unfoldable pub sizeQuestion : ℕ → ℕ → ℕ
+sizeQuestion n later = ask (leb n maxQubits) 1 later
+
+-- 2: are exactly 2n rows lent?
+unfoldable pub countQuestion : ℕ → List ℕ → ℕ → ℕ
+countQuestion n rows later = ask (eqb (length rows) (n + n)) 2 later
+
+-- of an action, 1, 2, 3: is each row free of bits from 2n up? and 4: is F symplectic?
+unfoldable pub actionQuestions : ℕ → List ℕ → ℕ
+actionQuestions n rows =
+    sizeQuestion n (countQuestion n rows (ask (fitAll (n + n) rows) 3 (ask (symplectic n rows) 4 0)))
+
+-- of a list call, then 5: are there at least as many output words as it wants?
+unfoldable pub listQuestions : ℕ → List ℕ → ℕ → ℕ → ℕ
+listQuestions n rows wanted lent = andThen (actionQuestions n rows) (ask (leb wanted lent) 5 0)

@@ -1,0 +1,1 @@
+// The greedy list. Its definitions are in specs/; nothing runs here.

@@ -1,0 +1,2 @@
+pub mod Minimal
+pub mod Shortest

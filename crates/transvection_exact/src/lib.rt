@@ -1,0 +1,1 @@
+// The minimal list. Its definitions are in specs/; nothing runs here.
