@@ -2,3 +2,4 @@ pub mod All
 pub mod Products
 pub mod Units
 pub mod Values
+pub mod Firsts

@@ -2,4 +2,4 @@ pub mod Turns
 pub mod Picks
 pub mod Actions
 pub mod Replies
-pub mod Rebuilt
+pub mod Answers

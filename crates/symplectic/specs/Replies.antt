@@ -20,6 +20,15 @@ pub record Reply : Type 0 where
   -- the lent output words as the call leaves them
   pub words : List ℕ
 
+-- an answer without the lent words
+pub record Told : Type 0 where
+  pub number : ℕ
+  pub count : ℕ
+  pub looks : ℕ
+
+unfoldable pub toldOf : Reply → Told
+toldOf r = record { number = r .number; count = r .count; looks = r .looks }
+
 -- a refusal has count 0 and leaves the lent words unchanged
 unfoldable pub refused : ℕ → ℕ → List ℕ → Reply
 refused number looks out = record { number = number; count = 0; looks = looks; words = out }

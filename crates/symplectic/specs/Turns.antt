@@ -4,6 +4,7 @@
 use mathlib.Core.Bool.{Bool, true, _&&_, Bool·beq}
 use mathlib.Core.List.{List, [], _∷_, map, zip, zipWith}
 use Prim.Native.Nat.{ℕ, _+_, _*_, _/_, _%_, _^_}
+use lib.ListN.{getD}
 use Rattle.binar.specs.Bits.{_⊻_, select, _⊕_, dot}
 use Rattle.blocks.specs.Matrices.{units}
 
@@ -52,6 +53,10 @@ pairAlike n a b = Bool·beq (pairing n (a .0) (b .0)) (pairing n (a .1) (b .1))
 -- F is symplectic: its rows pair as the basis does
 unfoldable pub symplectic : ℕ → List ℕ → Bool
 symplectic n F = let rows = zip F (units (n + n)) in allOf (λ a. allOf (pairAlike n a) rows) rows
+
+-- row i pairs with every row as its basis vector does with theirs
+unfoldable pub pairsAsBasis : ℕ → List ℕ → ℕ → Bool
+pairsAsBasis n F i = allOf (pairAlike n (getD F i 0, 2 ^ i)) (zip F (units (n + n)))
 
 -- a vector with its halves exchanged
 unfoldable pub swapHalves : ℕ → ℕ → ℕ

@@ -1,0 +1,85 @@
+-- A bordered list that passed its checks: r + 1 vectors, none zero, none out of width, and their product is F.
+-- Assumes nothing.
+use mathlib.Core.Path.{_≡_, refl, sym, ap, ap₂, _∙_, subst}
+use mathlib.Core.Bool.{Bool, true, false, _&&_, not, true≢false, and-eq-true-iff}
+use mathlib.Core.List.{List, [], _∷_, map}
+use mathlib.Core.Option.{Option, none, some}
+use Prim.Native.Nat.{ℕ, suc, _+_, _^_, _≤_, _<_}
+use native.Mathlib.Omega.{arith}
+use lib.Dec.{eqb}
+use lib.ListN.{length}
+use borrow.Author.Tests.{eqb-true, eqb-false, not-true}
+use Rattle.blocks.specs.Matrices.{times, units, All}
+use Rattle.blocks.proofs.All.{All·map}
+use Rattle.symplectic.specs.Turns.{allOf, product}
+use Rattle.symplectic.specs.Replies.{fitAll}
+use Rattle.symplectic.proofs.Lists.{all-true}
+use Rattle.symplectic.proofs.Products.{product-length, product-lt}
+use Rattle.symplectic.proofs.Questions.{fit-all}
+use Rattle.reduction.specs.Residue.{basis, core, form}
+use Rattle.reduction.proofs.Core.{basis-size}
+use Rattle.bordered.specs.Family.{borderedFamily}
+use Rattle.bordered.specs.Checks.{vectors, validate, sameRows, verifiesBordered, passing, checkedList, borderedList}
+
+pub rows-equal : (xs ys : List ℕ) → sameRows xs ys ≡ true → xs ≡ ys
+rows-equal [] [] e = refl
+rows-equal [] (y ∷ ys) e = absurd (true≢false (sym e))
+rows-equal (x ∷ xs) [] e = absurd (true≢false (sym e))
+rows-equal (x ∷ xs) (y ∷ ys) e =
+    let k = and-eq-true-iff (eqb x y) (sameRows xs ys) .0 e in ap₂ _∷_ (eqb-true x y (k .0)) (rows-equal xs ys (k .1))
+
+-- what `verifies_bordered_decomposition` has seen of a list
+pub record Verified (n : ℕ) (F vs : List ℕ) : Type 0 where
+  pub replays : product n vs ≡ F
+  pub size : length vs ≡ suc (length (basis n F))
+  pub nonzero : All (λ v. v ≡ 0 → ⊥) vs
+  pub fits : All (λ v. v < 2 ^ (n + n)) vs
+
+pub verifies : (n : ℕ) (F vs : List ℕ) → verifiesBordered n F (length (basis n F)) vs ≡ true → Verified n F vs
+unfolding verifiesBordered
+verifies n F vs e =
+    let test : ℕ → Bool = λ v. not (eqb v 0) in
+    let a = and-eq-true-iff (eqb (length vs) (suc (length (basis n F)))) (allOf test vs && (fitAll (n + n) vs && sameRows (product n vs) F)) .0 e in
+    let b = and-eq-true-iff (allOf test vs) (fitAll (n + n) vs && sameRows (product n vs) F) .0 (a .1) in
+    let c = and-eq-true-iff (fitAll (n + n) vs) (sameRows (product n vs) F) .0 (b .1) in
+    record {
+      replays = rows-equal (product n vs) F (c .1);
+      size = eqb-true (length vs) (suc (length (basis n F))) (a .0);
+      nonzero = All·map (λ v t. eqb-false v 0 (not-true (eqb v 0) t)) vs (all-true test vs (b .0));
+      fits = fit-all (n + n) vs (c .0);
+    }
+
+-- a candidate that did not pass is none
+abbrev pub Passed : ℕ → List ℕ → Option (List ℕ) → Type 0
+Passed n F none = Unit {0}
+Passed n F (some vs) = Verified n F vs
+
+checked : (n : ℕ) (F : List ℕ) (family : Option (List (ℕ × Bool))) → Passed n F (checkedList n F family)
+unfolding checkedList
+checked n F none = tt
+checked n F (some l) = go (validate r (form (core n F)) l) (verifiesBordered n F r vs) refl
+  where
+    r : ℕ
+    r = length (basis n F)
+
+    vs : List ℕ
+    vs = map (λ p. times p (basis n F)) (vectors l)
+
+    go : (a b : Bool) → verifiesBordered n F r vs ≡ b → Passed n F (passing (a && b) vs)
+    go true true e = verifies n F vs e
+    go true false e = tt
+    go false b e = tt
+
+pub bordered-passed : (n : ℕ) (F : List ℕ) → Passed n F (borderedList n F)
+unfolding borderedList
+bordered-passed n F = let r = length (basis n F) in checked n F (borderedFamily (form (core n F)) r (units r))
+
+pub bordered-verified : (n : ℕ) (F vs : List ℕ) → borderedList n F ≡ some vs → Verified n F vs
+bordered-verified n F vs e = subst (Passed n F) e (bordered-passed n F)
+
+-- what is verified fits 2n + 1 words
+pub verified-room : (n : ℕ) (F vs : List ℕ) → Verified n F vs → length vs ≤ n + n + 1
+verified-room n F vs v =
+    let long = ap length (sym (v .replays)) ∙ product-length n vs in
+    let rank = basis-size n F long (subst (All (λ f. f < 2 ^ (n + n))) (v .replays) (product-lt n vs (v .fits))) in
+    omega (arith, v .size)

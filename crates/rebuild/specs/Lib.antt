@@ -1,0 +1,2 @@
+pub mod Rebuilds
+pub mod Answers

@@ -1,0 +1,179 @@
+-- The residue of an action, its basis and transform, and the core: the basis spans what the action adds, and the core is the form of its residue.
+-- Assumes nothing.
+use mathlib.Core.Path.{_≡_, refl, sym, ap, ap₂, _∙_, subst}
+use mathlib.Core.List.{List, [], _∷_, _++_, map, map-map, map-append}
+use Prim.Native.Nat.{ℕ, _+_, _*_, _/_, _%_, _^_, _≤_, _<_}
+use native.Mathlib.Nat.{suc-ne-zero}
+use lib.ListN.{length, length-map, take, drop}
+use lib.Seq.{take-at, drop-at}
+use Rattle.binar.specs.Bits.{bit, dot, _⊕_}
+use Rattle.binar.proofs.Sums.{by-parts, zero-sum, sum-self}
+use Rattle.blocks.specs.Matrices.{times, units, All}
+use Rattle.blocks.proofs.All.{All·map, All·any, All·to-map, All·left}
+use Rattle.blocks.proofs.Products.{times-sum, times-high, times-lt}
+use Rattle.blocks.proofs.Units.{units-length, units-lt, units-split, times-units}
+use Rattle.linear.specs.Span.{InSpan, Indep}
+use Rattle.linear.specs.Maps.{Additive}
+use Rattle.linear.proofs.Sums.{swap4, eq-of-sum}
+use Rattle.linear.proofs.Exchange.{span-trans}
+use Rattle.linear.proofs.Instances.{𝕎}
+use Rattle.linear.proofs.Maps.{map-o}
+use Rattle.linear.proofs.Rows.{times-in, map-times, zero-by-units}
+use Rattle.symplectic.specs.Turns.{pairing, swapHalves}
+use Rattle.symplectic.proofs.Lists.{map-eq, eq-map}
+use Rattle.symplectic.proofs.Pairings.{swap-sum, swap-swap, swap-over, swap-low, swap-high, pairing-swap}
+use Rattle.symplectic.proofs.Layers.{added, added-sum, added-lt, added-over, identityPlus-is}
+use Rattle.reduction.specs.Columns.{reduced, rank, pivots}
+use Rattle.reduction.specs.Residue.{residue, reduction, basis, transform, timesTransposed, core, form}
+use Rattle.reduction.proofs.Echelon.{Rref}
+use Rattle.reduction.proofs.Reduced.{reduced-rref, pivots-lt, reduced-indep, reduced-lt, reduced-out, rank-width}
+use Rattle.reduction.proofs.Transform.{basis-row-is, basis-transform-lt, basis-reduced}
+use Rattle.reduction.proofs.Forms.{form-transposed, transposed-length, transposed-lt}
+
+-- ---- of any action
+
+-- what the action adds to an exchanged vector
+pub added-swap-sum : (n : ℕ) (F : List ℕ) → Additive 𝕎 𝕎 (λ u. added n F (swapHalves n u))
+added-swap-sum n F x y = ap (added n F) (swap-sum n x y) ∙ added-sum n F (swapHalves n x) (swapHalves n y)
+
+pub lift-sum : (n : ℕ) (F : List ℕ) → Additive 𝕎 𝕎 (λ p. swapHalves n (times p (transform n F)))
+lift-sum n F x y = ap (swapHalves n) (times-sum (transform n F) x y) ∙ swap-sum n (times x (transform n F)) (times y (transform n F))
+
+-- the basis is that of the plain reduction
+pub basis-plain : (n : ℕ) (F : List ℕ) → basis n F ≡ reduced (n + n) (residue n F) .up
+unfolding basis reduction
+basis-plain n F = basis-reduced (n + n) (residue n F)
+
+pub basis-rank : (n : ℕ) (F : List ℕ) → length (basis n F) ≡ rank (n + n) (residue n F)
+unfolding rank
+basis-rank n F = ap length (basis-plain n F)
+
+pub transform-size : (n : ℕ) (F : List ℕ) → length (transform n F) ≡ length (basis n F)
+unfolding transform basis
+transform-size n F = length-map (reduction n F .up) (λ a. a .1) ∙ sym (length-map (reduction n F .up) (λ a. a .0))
+
+pub basis-indep : (n : ℕ) (F : List ℕ) → Indep 𝕎 (basis n F)
+basis-indep n F = subst (Indep 𝕎) (sym (basis-plain n F)) (reduced-indep (n + n) (residue n F))
+
+pub basis-rref : (n : ℕ) (F : List ℕ) → Rref bit (pivots (n + n) (basis n F)) (basis n F)
+basis-rref n F = subst (λ B. Rref bit (pivots (n + n) B) B) (sym (basis-plain n F)) (reduced-rref (n + n) (residue n F))
+
+pub basis-pivots-lt : (n : ℕ) (F : List ℕ) → All (λ p. p < n + n) (pivots (n + n) (basis n F))
+basis-pivots-lt n F = subst (λ B. All (λ p. p < n + n) (pivots (n + n) B)) (sym (basis-plain n F)) (pivots-lt (n + n) (residue n F))
+
+-- pEq is the dot of what p takes of the basis and q of the transform
+pub core-form : (n : ℕ) (F : List ℕ) (p q : ℕ) → form (core n F) p q ≡ dot (times p (basis n F)) (times q (transform n F))
+unfolding core
+core-form n F p q = form-transposed (basis n F) (transform n F) p q
+
+pub core-length : (n : ℕ) (F : List ℕ) → length (core n F) ≡ length (basis n F)
+unfolding core
+core-length n F = transposed-length (basis n F) (transform n F)
+
+pub core-lt : (n : ℕ) (F : List ℕ) → All (λ v. v < 2 ^ length (basis n F)) (core n F)
+unfolding core
+core-lt n F = subst (λ r. All (λ v. v < 2 ^ r) (timesTransposed (basis n F) (transform n F))) (transform-size n F) (transposed-lt (basis n F) (transform n F))
+
+pub core-zero : (n : ℕ) (F : List ℕ) → length (basis n F) ≡ 0 → core n F ≡ []
+core-zero n F e = empty (core n F) (core-length n F ∙ e)
+  where
+    empty : (l : List ℕ) → length l ≡ 0 → l ≡ []
+    empty [] z = refl
+    empty (x ∷ xs) z = absurd (suc-ne-zero (length xs) z)
+
+-- ---- of an action of 2n rows
+
+module _ (n : ℕ) (F : List ℕ) (size : length F ≡ n + n) where
+  -- the rows of the residue are what the action adds to the exchanged basis vectors
+  pub residue-is : residue n F ≡ map (λ u. added n F (swapHalves n u)) (units (n + n))
+  unfolding residue
+  residue-is =
+      ap (λ l. drop n l ++ take n l) (identityPlus-is n F size ∙ ap (map A) (units-split n n) ∙ map-append A us vs)
+      ∙ ap₂ _++_ (drop-at (map A us) (map A vs) n len) (take-at (map A us) (map A vs) n len)
+      ∙ sym (ap (map (λ u. A (swapHalves n u))) (units-split n n) ∙ map-append (λ u. A (swapHalves n u)) us vs ∙ ap₂ _++_ ups downs)
+    where
+      A : ℕ → ℕ
+      A = added n F
+
+      us : List ℕ
+      us = units n
+
+      vs : List ℕ
+      vs = map (λ u. u * 2 ^ n) (units n)
+
+      len : length (map A us) ≡ n
+      len = length-map us A ∙ units-length n
+
+      ups : map (λ u. A (swapHalves n u)) us ≡ map A vs
+      ups =
+          map-eq (λ u. A (swapHalves n u)) (λ u. A (u * 2 ^ n)) us (All·map (λ u h. ap A (swap-low n u h)) us (units-lt n))
+          ∙ sym (map-map A (λ u. u * 2 ^ n) us)
+
+      downs : map (λ u. A (swapHalves n u)) vs ≡ map A us
+      downs =
+          map-map (λ u. A (swapHalves n u)) (λ u. u * 2 ^ n) us
+          ∙ map-eq (λ u. A (swapHalves n (u * 2 ^ n))) A us (All·map (λ u h. ap A (swap-high n u h)) us (units-lt n))
+
+  pub residue-length : length (residue n F) ≡ n + n
+  residue-length = ap length residue-is ∙ length-map (units (n + n)) (λ u. added n F (swapHalves n u)) ∙ units-length (n + n)
+
+  pub residue-times : (u : ℕ) → times u (residue n F) ≡ added n F (swapHalves n u)
+  residue-times u =
+      eq-of-sum 𝕎 (times u R) (A u)
+      (zero-by-units 𝕎 (λ z. times z R ⊕ A z)
+      (λ x y. ap₂ _⊕_ (times-sum R x y) (added-swap-sum n F x y) ∙ swap4 𝕎 (times x R) (times y R) (A x) (A y)) (n + n)
+      (All·map (λ z e. ap (λ t. t ⊕ A z) e ∙ sum-self (A z)) (units (n + n))
+      (eq-map (λ z. times z R) A (units (n + n)) (ap (λ m. map (λ z. times z R) (units m)) (sym residue-length) ∙ times-units R ∙ residue-is)))
+      (λ h. ap₂ _⊕_ (ap (λ m. times (h * 2 ^ m) R) (sym residue-length) ∙ times-high R h) (ap (added n F) (swap-over n h) ∙ map-o 𝕎 𝕎 (added n F) (added-sum n F)) ∙ zero-sum 0) u)
+    where
+      R : List ℕ
+      R = residue n F
+
+      A : ℕ → ℕ
+      A z = added n F (swapHalves n z)
+
+  pub transform-lt : All (λ v. v < 2 ^ (n + n)) (transform n F)
+  unfolding transform reduction
+  transform-lt =
+      All·to-map (λ a. a .1) (λ v. v < 2 ^ (n + n)) (reduction n F .up)
+      (subst (λ r. All (λ a. a .1 < 2 ^ r) (reduction n F .up)) residue-length (basis-transform-lt (n + n) (residue n F)))
+
+  -- the basis is what the action adds to the exchanged transform
+  pub basis-is : (p : ℕ) → added n F (swapHalves n (times p (transform n F))) ≡ times p (basis n F)
+  unfolding basis transform reduction
+  basis-is p =
+      map-times (λ u. added n F (swapHalves n u)) (added-swap-sum n F) (transform n F) p
+      ∙ ap (times p) (map-map (λ u. added n F (swapHalves n u)) (λ a. a .1) (reduction n F .up)
+      ∙ map-eq (λ a. added n F (swapHalves n (a .1))) (λ a. a .0) (reduction n F .up)
+      (All·map (λ a e. sym (e ∙ residue-times (a .1))) (reduction n F .up) (basis-row-is (n + n) (residue n F))))
+
+  -- the core is the form of the residue
+  pub core-is : (p q : ℕ) → pairing n (times p (basis n F)) (swapHalves n (times q (transform n F))) ≡ form (core n F) p q
+  core-is p q =
+      pairing-swap n (times p (basis n F)) (times q (transform n F)) (times-lt (n + n) (transform n F) transform-lt q) ∙ sym (core-form n F p q)
+
+  module _ (bounded : All (λ f. f < 2 ^ (n + n)) F) where
+    pub residue-lt : All (λ v. v < 2 ^ (n + n)) (residue n F)
+    residue-lt =
+        subst (All (λ v. v < 2 ^ (n + n))) (sym residue-is)
+        (All·to-map (λ u. added n F (swapHalves n u)) (λ v. v < 2 ^ (n + n)) (units (n + n)) (All·any (λ u. added-lt n F bounded (swapHalves n u)) (units (n + n))))
+
+    pub basis-lt : All (λ v. v < 2 ^ (n + n)) (basis n F)
+    basis-lt =
+        let h = reduced (n + n) (residue n F) in
+        subst (All (λ v. v < 2 ^ (n + n))) (sym (basis-plain n F)) (All·left (λ v. v < 2 ^ (n + n)) (h .up) (h .down) (reduced-lt (n + n) (residue n F) residue-lt))
+
+    pub basis-size : length (basis n F) ≤ n + n
+    basis-size = subst (λ r. r ≤ n + n) (sym (basis-rank n F)) (rank-width (n + n) (residue n F) residue-lt)
+
+    -- what the action adds to any vector
+    pub full : (z : ℕ) → InSpan 𝕎 (basis n F) (added n F z)
+    full z =
+        subst (InSpan 𝕎 (basis n F)) (residue-times (swapHalves n z) ∙ ap (added n F) (swap-swap n z) ∙ sym whole)
+        (span-trans 𝕎 (residue n F) (basis n F) (times (swapHalves n z) (residue n F))
+        (subst (λ B. All (InSpan 𝕎 B) (residue n F)) (sym (basis-plain n F)) (reduced-out (n + n) (residue n F) residue-lt)) (times-in (swapHalves n z) (residue n F)))
+      where
+        whole : added n F z ≡ added n F (z % 2 ^ (n + n))
+        whole =
+            ap (added n F) (by-parts (n + n) z) ∙ added-sum n F (z / 2 ^ (n + n) * 2 ^ (n + n)) (z % 2 ^ (n + n))
+            ∙ ap (λ t. t ⊕ added n F (z % 2 ^ (n + n))) (added-over n F size (z / 2 ^ (n + n))) ∙ zero-sum (added n F (z % 2 ^ (n + n)))

@@ -1,0 +1,43 @@
+-- The form of a matrix: additive in each argument; and that of a product with a transposed matrix.
+-- Assumes nothing.
+use mathlib.Core.Path.{_≡_, refl, sym, ap, ap₂, _∙_}
+use mathlib.Core.List.{List, [], _∷_, map}
+use Prim.Native.Nat.{ℕ, _*_, _+_, _^_, _<_}
+use lib.ListN.{length, length-map}
+use Rattle.binar.specs.Bits.{_⊻_, _⊕_, digit, dot}
+use Rattle.binar.proofs.Dots.{dot-sum, sum-dot}
+use Rattle.blocks.specs.Matrices.{times, dots, All}
+use Rattle.blocks.proofs.All.{All·any, All·to-map}
+use Rattle.blocks.proofs.Products.{times-sum, dot-times, dots-lt}
+use Rattle.linear.specs.Maps.{Form}
+use Rattle.linear.proofs.Instances.{𝕎}
+use Rattle.reduction.specs.Residue.{timesTransposed, form}
+
+pub form-left : (E : List ℕ) (q a b : ℕ) → form E (a ⊕ b) q ≡ form E a q ⊻ form E b q
+unfolding form
+form-left E q a b = ap (λ t. dot t q) (times-sum E a b) ∙ sum-dot (times a E) (times b E) q
+
+pub form-right : (E : List ℕ) (p a b : ℕ) → form E p (a ⊕ b) ≡ form E p a ⊻ form E p b
+unfolding form
+form-right E p a b = dot-sum (times p E) a b
+
+abbrev pub formOf : List ℕ → Form 𝕎
+formOf E = record { at = form E; left = form-left E; right = form-right E }
+
+dots-transposed : (B R : List ℕ) (q : ℕ) → dots (map (dots R) B) q ≡ dots B (times q R)
+unfolding dots
+dots-transposed [] R q = refl
+dots-transposed (v ∷ B) R q = ap₂ (λ s t. s * 2 + digit t) (dots-transposed B R q) (sym (dot-times R q v))
+
+-- p times B times R transposed, with q
+pub form-transposed : (B R : List ℕ) (p q : ℕ) → form (timesTransposed B R) p q ≡ dot (times p B) (times q R)
+unfolding form timesTransposed
+form-transposed B R p q = dot-times (map (dots R) B) p q ∙ ap (dot p) (dots-transposed B R q) ∙ sym (dot-times B p (times q R))
+
+pub transposed-length : (B R : List ℕ) → length (timesTransposed B R) ≡ length B
+unfolding timesTransposed
+transposed-length B R = length-map B (dots R)
+
+pub transposed-lt : (B R : List ℕ) → All (λ v. v < 2 ^ length R) (timesTransposed B R)
+unfolding timesTransposed
+transposed-lt B R = All·to-map (dots R) (λ v. v < 2 ^ length R) B (All·any (dots-lt R) B)

@@ -1,0 +1,10 @@
+pub mod Columns
+pub mod Echelon
+pub mod Unique
+pub mod Reduced
+pub mod Transform
+pub mod Forms
+pub mod Core
+pub mod Flat
+pub mod Sweep
+pub mod TwoLists

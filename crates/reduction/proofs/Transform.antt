@@ -1,0 +1,105 @@
+-- The reduction with its transform: each row at the end is its row of the transform times the matrix, and the rows are those of the plain reduction.
+-- Assumes nothing.
+use mathlib.Core.Path.{_≡_, refl, sym, ap, ap₂, _∙_, subst}
+use mathlib.Core.Bool.{true, false}
+use mathlib.Core.List.{List, [], map, map-map, zip}
+use Prim.Native.Nat.{ℕ, _^_, _<_}
+use lib.ListN.{length, length-map}
+use Rattle.binar.specs.Bits.{bit, _⊕_}
+use Rattle.binar.proofs.Sums.{sum-lt}
+use Rattle.blocks.specs.Matrices.{times, matmul, All, units}
+use Rattle.blocks.proofs.All.{All·map, All·to-map, All·of-map, All·left}
+use Rattle.blocks.proofs.Products.{times-sum}
+use Rattle.blocks.proofs.Units.{units-length, units-lt, times-units}
+use Rattle.linear.specs.Span.{InSpan, Indep}
+use Rattle.linear.proofs.Sums.{add-zero}
+use Rattle.linear.proofs.Instances.{𝕎, Prod}
+use Rattle.symplectic.specs.Picks.{addBoth}
+use Rattle.symplectic.proofs.Lists.{map-eq, zip-map}
+use Rattle.reduction.specs.Columns.{columns, reduced, rank, rowReduceWithTransform}
+use Rattle.reduction.proofs.Columns.{rows, Closed, closed-columns, length-columns, mapHalves, columns-map}
+use Rattle.reduction.proofs.Reduced.{reduced-indep, reduced-lt, reduced-zero, reduced-out}
+
+module _ (m : ℕ) (M : List ℕ) where
+  start-is : zip M (units (length M)) ≡ map (λ u. (times u M, u)) (units (length M))
+  start-is = ap (λ l. zip l (units (length M))) (sym (times-units M)) ∙ zip-map (λ u. times u M) (units (length M))
+
+  -- a row beside its row of the transform
+  abbrev Beside : ℕ × ℕ → Type 0
+  Beside a = (a .0 ≡ times (a .1) M) × (a .1 < 2 ^ length M)
+
+  beside-closed : Closed (Prod 𝕎 𝕎) Beside
+  beside-closed x y true h k = (ap₂ _⊕_ (k .0) (h .0) ∙ sym (times-sum M (y .1) (x .1)), sum-lt (length M) (y .1) (x .1) (k .1) (h .1))
+  beside-closed x y false h k = subst Beside (sym (add-zero (Prod 𝕎 𝕎) y)) k
+
+  beside : All Beside (rows (rowReduceWithTransform m M))
+  unfolding rowReduceWithTransform
+  beside =
+      closed-columns (Prod 𝕎 𝕎) (λ c a. bit c (a .0)) Beside beside-closed m 0 (record { up = []; down = zip M (units (length M)) })
+      (subst (All Beside) (sym start-is)
+      (All·to-map (λ u. (times u M, u)) Beside (units (length M)) (All·map (λ u h. (refl, h)) (units (length M)) (units-lt (length M)))))
+
+  -- every row is its row of the transform times the matrix
+  pub row-is : All (λ a. a .0 ≡ times (a .1) M) (rows (rowReduceWithTransform m M))
+  row-is = All·map (λ a h. h .0) (rows (rowReduceWithTransform m M)) beside
+
+  pub transform-rows-lt : All (λ a. a .1 < 2 ^ length M) (rows (rowReduceWithTransform m M))
+  transform-rows-lt = All·map (λ a h. h .1) (rows (rowReduceWithTransform m M)) beside
+
+  -- so are the rows above
+  pub basis-row-is : All (λ a. a .0 ≡ times (a .1) M) (rowReduceWithTransform m M .up)
+  basis-row-is = All·left (λ a. a .0 ≡ times (a .1) M) (rowReduceWithTransform m M .up) (rowReduceWithTransform m M .down) row-is
+
+  pub basis-transform-lt : All (λ a. a .1 < 2 ^ length M) (rowReduceWithTransform m M .up)
+  basis-transform-lt = All·left (λ a. a .1 < 2 ^ length M) (rowReduceWithTransform m M .up) (rowReduceWithTransform m M .down) transform-rows-lt
+
+  -- the reduced rows are the transform times the matrix
+  pub reduced-product : map (λ a. a .0) (rows (rowReduceWithTransform m M)) ≡ matmul (map (λ a. a .1) (rows (rowReduceWithTransform m M))) M
+  unfolding matmul
+  reduced-product =
+      map-eq (λ a. a .0) (λ a. times (a .1) M) (rows (rowReduceWithTransform m M)) row-is
+      ∙ sym (map-map (λ r. times r M) (λ a. a .1) (rows (rowReduceWithTransform m M)))
+
+  -- the rows alone are those of the plain reduction
+  pub rows-reduced : mapHalves (λ a. a .0) (rowReduceWithTransform m M) ≡ reduced m M
+  unfolding rowReduceWithTransform reduced
+  rows-reduced =
+      sym (columns-map (λ a. a .0) (0, 0) addBoth 0 _⊕_ refl (λ x y. refl) bit m 0 (record { up = []; down = zip M (units (length M)) }))
+      ∙ ap (λ l. columns 0 _⊕_ bit m 0 (record { up = []; down = l })) start-rows
+    where
+      start-rows : map (λ a. a .0) (zip M (units (length M))) ≡ M
+      start-rows = ap (map (λ a. a .0)) start-is ∙ map-map (λ a. a .0) (λ u. (times u M, u)) (units (length M)) ∙ times-units M
+
+  pub basis-reduced : map (λ a. a .0) (rowReduceWithTransform m M .up) ≡ reduced m M .up
+  basis-reduced = ap (λ h. h .up) rows-reduced
+
+  pub rest-reduced : map (λ a. a .0) (rowReduceWithTransform m M .down) ≡ reduced m M .down
+  rest-reduced = ap (λ h. h .down) rows-reduced
+
+  pub rank-up : length (rowReduceWithTransform m M .up) ≡ rank m M
+  unfolding rank
+  rank-up = sym (length-map (rowReduceWithTransform m M .up) (λ a. a .0)) ∙ ap length basis-reduced
+
+  pub transform-length : length (rows (rowReduceWithTransform m M)) ≡ length M
+  unfolding rowReduceWithTransform
+  transform-length =
+      length-columns (0, 0) addBoth (λ c a. bit c (a .0)) m 0 (record { up = []; down = zip M (units (length M)) })
+      ∙ ap length start-is ∙ length-map (units (length M)) (λ u. (times u M, u)) ∙ units-length (length M)
+
+  pub up-indep : Indep 𝕎 (map (λ a. a .0) (rowReduceWithTransform m M .up))
+  up-indep = subst (Indep 𝕎) (sym basis-reduced) (reduced-indep m M)
+
+  module _ (small : All (λ v. v < 2 ^ m) M) where
+    -- every row of the matrix is a sum of rows above
+    pub up-spans : All (InSpan 𝕎 (map (λ a. a .0) (rowReduceWithTransform m M .up))) M
+    up-spans = subst (λ B. All (InSpan 𝕎 B) M) (sym basis-reduced) (reduced-out m M small)
+
+    pub up-lt : All (λ a. a .0 < 2 ^ m) (rowReduceWithTransform m M .up)
+    up-lt =
+        All·of-map (λ a. a .0) (λ v. v < 2 ^ m) (rowReduceWithTransform m M .up)
+        (subst (All (λ v. v < 2 ^ m)) (sym basis-reduced) (All·left (λ v. v < 2 ^ m) (reduced m M .up) (reduced m M .down) (reduced-lt m M small)))
+
+    -- the rows below are zero
+    pub down-zero : All (λ a. a .0 ≡ 0) (rowReduceWithTransform m M .down)
+    down-zero =
+        All·of-map (λ a. a .0) (λ v. v ≡ 0) (rowReduceWithTransform m M .down) (subst (All (λ v. v ≡ 0)) (sym rest-reduced) (reduced-zero m M small))

@@ -1,0 +1,163 @@
+-- The steps of a column on the rows and on the transform, each in a list of its own, and on the rows alone.
+-- Assumes nothing.
+use mathlib.Core.Path.{_≡_, refl, sym, ap, ap₂, _∙_, subst}
+use mathlib.Core.Bool.{Bool, true, false}
+use mathlib.Core.List.{List, [], _∷_, map, zip, zipWith}
+use Prim.Native.Nat.{ℕ, zero, suc, _-_, _≤_, _<_}
+use native.Mathlib.Nat.{sub-zero, suc-inj, suc-ne-zero}
+use lib.Dec.{eqb}
+use lib.ListN.{length, take, getD, set}
+use Rattle.binar.specs.Bits.{bit, _⊕_}
+use Rattle.binar.proofs.Sums.{sum-zero}
+use Rattle.blocks.specs.Matrices.{units}
+use Rattle.linear.proofs.Sums.{add-zero}
+use Rattle.linear.proofs.Instances.{𝕎, Prod}
+use Rattle.symplectic.specs.Picks.{addBoth}
+use Rattle.reduction.specs.Columns.{clear, column, columns, reduced, rowReduceWithTransform}
+use Rattle.blocks.proofs.Firsts.{First}
+use Rattle.reduction.proofs.Flat.{swapped, swapped-length, swapped-pivot, halves, others, column-at, column-none}
+use Rattle.reduction.proofs.Sweep.{sweepIf, swept, swept-length, swept-all}
+
+-- ---- two lists of one length, side by side
+
+module _ {A B : Type 0} where
+  zip-length : (R : List A) (T : List B) → length R ≡ length T → length (zip R T) ≡ length R
+  unfolding zip zipWith
+  zip-length [] T e = refl
+  zip-length (r ∷ R) [] e = absurd (suc-ne-zero (length R) e)
+  zip-length (r ∷ R) (t ∷ T) e = ap suc (zip-length R T (suc-inj e))
+
+  zip-at : (R : List A) (T : List B) (d : A) (e : B) → length R ≡ length T → (i : ℕ) → getD (zip R T) i (d, e) ≡ (getD R i d, getD T i e)
+  unfolding zip zipWith
+  zip-at [] [] d e s i = refl
+  zip-at [] (t ∷ T) d e s i = absurd (suc-ne-zero (length T) (sym s))
+  zip-at (r ∷ R) [] d e s i = absurd (suc-ne-zero (length R) s)
+  zip-at (r ∷ R) (t ∷ T) d e s zero = refl
+  zip-at (r ∷ R) (t ∷ T) d e s (suc i) = zip-at R T d e (suc-inj s) i
+
+  zip-set : (R : List A) (T : List B) (i : ℕ) (a : A) (b : B) → zip (set R i a) (set T i b) ≡ set (zip R T) i (a, b)
+  unfolding zip zipWith
+  zip-set [] T i a b = refl
+  zip-set (r ∷ R) [] zero a b = refl
+  zip-set (r ∷ R) [] (suc i) a b = refl
+  zip-set (r ∷ R) (t ∷ T) zero a b = refl
+  zip-set (r ∷ R) (t ∷ T) (suc i) a b = ap (λ l. (r, t) ∷ l) (zip-set R T i a b)
+
+  -- the first of the pairs above the pivot row, and the second
+  pub above-left : (p : ℕ) (R : List A) (T : List B) → length R ≡ length T → map (λ a. a .0) (take p (zip R T)) ≡ take p R
+  unfolding zip zipWith
+  above-left zero R T e = refl
+  above-left (suc p) [] T e = refl
+  above-left (suc p) (r ∷ R) [] e = absurd (suc-ne-zero (length R) e)
+  above-left (suc p) (r ∷ R) (t ∷ T) e = ap (λ l. r ∷ l) (above-left p R T (suc-inj e))
+
+  pub above-right : (p : ℕ) (R : List A) (T : List B) → length R ≡ length T → map (λ a. a .1) (take p (zip R T)) ≡ take p T
+  unfolding zip zipWith
+  above-right zero R T e = refl
+  above-right (suc p) [] [] e = refl
+  above-right (suc p) [] (t ∷ T) e = absurd (suc-ne-zero (length T) (sym e))
+  above-right (suc p) (r ∷ R) [] e = absurd (suc-ne-zero (length R) e)
+  above-right (suc p) (r ∷ R) (t ∷ T) e = ap (λ l. t ∷ l) (above-right p R T (suc-inj e))
+
+abbrev zeros : ℕ × ℕ
+zeros = (0, 0)
+
+zip-swapped : (R T : List ℕ) → length R ≡ length T → (p j : ℕ) → zip (swapped 0 p j R) (swapped 0 p j T) ≡ swapped zeros p j (zip R T)
+zip-swapped R T e p j =
+    zip-set (set R p (getD R j 0)) (set T p (getD T j 0)) j (getD R p 0) (getD T p 0)
+    ∙ ap (λ l. set l j (getD R p 0, getD T p 0)) (zip-set R T p (getD R j 0) (getD T j 0))
+    ∙ sym (ap₂ (λ x y. set (set (zip R T) p x) j y) (zip-at R T 0 0 e j) (zip-at R T 0 0 e p))
+
+zip-swept : (R T : List ℕ) → length R ≡ length T → (t : ℕ → Bool) (p i : ℕ)
+    → zip (swept 0 _⊕_ t p i R) (swept 0 _⊕_ t p i T) ≡ swept zeros addBoth t p i (zip R T)
+unfolding swept
+zip-swept R T e t p zero = refl
+zip-swept R T e t p (suc i) = go (eqb i p) (t i) ∙ ap (sweepIf zeros addBoth t p (eqb i p) (t i) i) (zip-swept R T e t p i)
+  where
+    R′ : List ℕ
+    R′ = swept 0 _⊕_ t p i R
+
+    T′ : List ℕ
+    T′ = swept 0 _⊕_ t p i T
+
+    long : length R′ ≡ length T′
+    long = swept-length 0 _⊕_ t p i R ∙ e ∙ sym (swept-length 0 _⊕_ t p i T)
+
+    go : (a b : Bool) → zip (sweepIf 0 _⊕_ t p a b i R′) (sweepIf 0 _⊕_ t p a b i T′) ≡ sweepIf zeros addBoth t p a b i (zip R′ T′)
+    go true b = refl
+    go false false = refl
+    go false true =
+        zip-set R′ T′ i (getD R′ i 0 ⊕ getD R′ p 0) (getD T′ i 0 ⊕ getD T′ p 0)
+        ∙ sym (ap₂ (λ x y. set (zip R′ T′) i (addBoth x y)) (zip-at R′ T′ 0 0 long i) (zip-at R′ T′ 0 0 long p))
+
+-- ---- a column
+
+-- of the rows alone
+pub rows-at : (c p j : ℕ) (R : List ℕ) → First (bit c) 0 R p j
+    → column 0 _⊕_ (bit c) (halves p R) ≡ halves (suc p) (swept 0 _⊕_ (λ i. bit c (getD (swapped 0 p j R) i 0)) p (length R) (swapped 0 p j R))
+rows-at c p j R f =
+    column-at 0 _⊕_ 0 (bit c) p j R f
+    ∙ ap (halves (suc p))
+    (ap (λ x. others (clear 0 _⊕_ (bit c) x) p s) (sym (swapped-pivot 0 p j R (f .from) (f .inside)))
+    ∙ sym (swept-all 0 0 _⊕_ sum-zero (bit c) p s (λ i. bit c (getD s i 0)) (λ i h. refl))
+    ∙ ap (λ m. swept 0 _⊕_ (λ i. bit c (getD s i 0)) p m s) (swapped-length 0 p j R))
+  where
+    s : List ℕ
+    s = swapped 0 p j R
+
+pub rows-none : (c p : ℕ) (R : List ℕ) → ((i : ℕ) → p ≤ i → i < length R → bit c (getD R i 0) ≡ false) → column 0 _⊕_ (bit c) (halves p R) ≡ halves p R
+rows-none c p R f = column-none 0 _⊕_ 0 (bit c) p R f
+
+-- of the rows and the transform
+pub both-at : (c p j : ℕ) (R T : List ℕ) → length R ≡ length T → First (bit c) 0 R p j
+    → column (0, 0) addBoth (λ a. bit c (a .0)) (halves p (zip R T))
+    ≡ halves (suc p) (zip (swept 0 _⊕_ (λ i. bit c (getD (swapped 0 p j R) i 0)) p (length R) (swapped 0 p j R))
+    (swept 0 _⊕_ (λ i. bit c (getD (swapped 0 p j R) i 0)) p (length R) (swapped 0 p j T)))
+both-at c p j R T e f =
+    column-at zeros addBoth zeros has p j (zip R T) first
+    ∙ ap (halves (suc p))
+    (ap (λ x. others (clear zeros addBoth has x) p (swapped zeros p j (zip R T))) (sym (swapped-pivot zeros p j (zip R T) (first .from) (first .inside)))
+    ∙ ap (λ l. others (clear zeros addBoth has (getD l p zeros)) p l) (sym (zip-swapped R T e p j))
+    ∙ sym (swept-all zeros zeros addBoth (add-zero (Prod 𝕎 𝕎)) has p (zip R′ T′) t (λ i h. ap has (sym (zip-at R′ T′ 0 0 long i))))
+    ∙ ap (λ m. swept zeros addBoth t p m (zip R′ T′)) (zip-length R′ T′ long ∙ swapped-length 0 p j R)
+    ∙ sym (zip-swept R′ T′ long t p (length R)))
+  where
+    has : ℕ × ℕ → Bool
+    has a = bit c (a .0)
+
+    R′ : List ℕ
+    R′ = swapped 0 p j R
+
+    T′ : List ℕ
+    T′ = swapped 0 p j T
+
+    t : ℕ → Bool
+    t i = bit c (getD R′ i 0)
+
+    long : length R′ ≡ length T′
+    long = swapped-length 0 p j R ∙ e ∙ sym (swapped-length 0 p j T)
+
+    first : First has zeros (zip R T) p j
+    first = record {
+      from = f .from;
+      inside = subst (λ m. j < m) (sym (zip-length R T e)) (f .inside);
+      before = λ i a l. ap has (zip-at R T 0 0 e i) ∙ f .before i a l;
+      at = ap has (zip-at R T 0 0 e j) ∙ f .at;
+    }
+
+pub both-none : (c p : ℕ) (R T : List ℕ) → length R ≡ length T → ((i : ℕ) → p ≤ i → i < length R → bit c (getD R i 0) ≡ false)
+    → column (0, 0) addBoth (λ a. bit c (a .0)) (halves p (zip R T)) ≡ halves p (zip R T)
+both-none c p R T e f =
+    column-none (0, 0) addBoth (0, 0) (λ a. bit c (a .0)) p (zip R T)
+    (λ i a l. ap (λ x. bit c (x .0)) (zip-at R T 0 0 e i) ∙ f i a (subst (λ m. i < m) (zip-length R T e) l))
+
+-- ---- the start: no column done, and the pivot row the first
+
+pub rows-start : (m : ℕ) (M : List ℕ) → columns 0 _⊕_ bit (m - 0) 0 (halves 0 M) ≡ reduced m M
+unfolding reduced
+rows-start m M = ap (λ k. columns 0 _⊕_ bit k 0 (halves 0 M)) (sub-zero m)
+
+pub both-start : (m : ℕ) (M : List ℕ)
+    → columns (0, 0) addBoth (λ c a. bit c (a .0)) (m - 0) 0 (halves 0 (zip M (units (length M)))) ≡ rowReduceWithTransform m M
+unfolding rowReduceWithTransform
+both-start m M = ap (λ k. columns (0, 0) addBoth (λ c a. bit c (a .0)) k 0 (halves 0 (zip M (units (length M))))) (sub-zero m)

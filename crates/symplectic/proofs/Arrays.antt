@@ -1,0 +1,118 @@
+-- The rows of an action: how many there are, and an array whose rows are written one by one from the start.
+-- Assumes nothing.
+use mathlib.Core.Path.{_≡_, refl, sym, ap, ap₂, _∙_}
+use mathlib.Core.List.{List, [], _∷_, _++_, map}
+use Prim.Native.Nat.{ℕ, zero, suc, _+_, _*_, _≤_, _<_, min}
+use native.Mathlib.Nat.{le-of-suc-le-suc, not-suc-le-zero}
+use native.Mathlib.Omega.{arith}
+use lib.ListN.{length, getD, set, take, drop, replicate}
+use lib.Seq.{take-at, take-take, take-append-le, getD-take, getD-at, drop-cons, length-take-le}
+use Rattle.binar.specs.declared.Row.{Row}
+use Rattle.binar.specs.Rows.{val, blank}
+use Rattle.blocks.specs.Blocks.{vals}
+use Rattle.blocks.specs.Matrices.{units}
+use Rattle.blocks.proofs.Values.{vals-get, vals-set, vals-length, laid-more}
+use Rattle.symplectic.specs.declared.Action.{Action}
+use Rattle.symplectic.specs.Actions.{maxQubits, capped, qubits, matrix, padded}
+use Rattle.symplectic.specs.Turns.{turn, followed}
+
+-- ---- the qubits and the rows of an action
+
+pub capped-le : (n : ℕ) → capped n ≤ 32
+unfolding capped maxQubits
+capped-le n = omega arith
+
+pub capped-is : (n : ℕ) → n ≤ 32 → capped n ≡ n
+unfolding capped maxQubits
+capped-is n h = omega arith
+
+pub qubits-le : (a : Action) → qubits a ≤ 32
+unfolding qubits
+qubits-le a = capped-le (a .n)
+
+pub matrix-length : (a : Action) → length (a .rows) ≡ 64 → length (matrix a) ≡ qubits a + qubits a
+unfolding matrix
+matrix-length a long =
+    length-take-le (qubits a + qubits a) (vals (a .rows)) (omega (arith, qubits-le a, vals-length (a .rows)))
+
+pub matrix-get : (a : Action) (i : ℕ) → i < qubits a + qubits a → val (getD (a .rows) i blank) ≡ getD (matrix a) i 0
+unfolding matrix
+matrix-get a i h = vals-get (a .rows) i ∙ sym (getD-take (qubits a + qubits a) (vals (a .rows)) i 0 h)
+
+-- ---- rows m written over the rows l, up to i
+
+-- one row more
+pub rows-more : (m l : List ℕ) (rows : List Row) (i : ℕ) (w : Row) → i < length m → i < length l
+    → vals rows ≡ take i m ++ drop i l → val w ≡ getD m i 0 → vals (set rows i w) ≡ take (i + 1) m ++ drop (i + 1) l
+rows-more m l rows i w hm hl inv e =
+    vals-set rows i w ∙ ap₂ (λ (x : List ℕ) (v : ℕ). set x i v) inv e ∙ laid-more m l i hm hl
+
+-- the next row is not written yet
+pub rows-next : (m l : List ℕ) (rows : List Row) (i : ℕ) → i < length m → i < length l → vals rows ≡ take i m ++ drop i l → val (getD rows i blank) ≡ getD l i 0
+rows-next m l rows i hm hl inv =
+    vals-get rows i ∙ ap (λ (x : List ℕ). getD x i 0) (inv ∙ ap (λ (x : List ℕ). take i m ++ x) (drop-cons l i 0 hl))
+    ∙ getD-at (take i m) (getD l i 0) (drop (suc i) l) 0 i (length-take-le i m (omega arith))
+
+-- the rows that are written
+pub rows-front : (m l : List ℕ) (i k : ℕ) → k ≤ i → i ≤ length m → take k (take i m ++ drop i l) ≡ take k m
+rows-front m l i k h g =
+    take-append-le k (take i m) (drop i l) (omega (arith, length-take-le i m g)) ∙ take-take k i m h
+
+-- ---- the rows of a turn, of the identity and of lent words
+
+pub take-map : (f : ℕ → ℕ) (k : ℕ) (l : List ℕ) → take k (map f l) ≡ map f (take k l)
+take-map f zero l = refl
+take-map f (suc k) [] = refl
+take-map f (suc k) (x ∷ l) = ap (λ (m : List ℕ). f x ∷ m) (take-map f k l)
+
+pub followed-take : (n k : ℕ) (l : List ℕ) (v : ℕ) → take k (followed n l v) ≡ followed n (take k l) v
+unfolding followed
+followed-take n k l v = take-map (turn n v) k l
+
+pub followed-at : (n : ℕ) (l : List ℕ) (v i : ℕ) → i < length l → getD (followed n l v) i 0 ≡ turn n v (getD l i 0)
+unfolding followed
+followed-at n [] v i h = absurd (not-suc-le-zero h)
+followed-at n (x ∷ l) v zero h = refl
+followed-at n (x ∷ l) v (suc i) h = followed-at n l v i (le-of-suc-le-suc h)
+
+pub take-units : (k m : ℕ) → k ≤ m → take k (units m) ≡ units k
+unfolding units
+take-units zero m h = refl
+take-units (suc k) zero h = absurd (not-suc-le-zero h)
+take-units (suc k) (suc m) h =
+    ap (λ (l : List ℕ). 1 ∷ l) (take-map (λ u. u * 2) k (units m) ∙ ap (map (λ u. u * 2)) (take-units k m (le-of-suc-le-suc h)))
+
+pub vals-replicate : (m : ℕ) (z : Row) → val z ≡ 0 → vals (replicate m z) ≡ replicate m 0
+unfolding vals
+vals-replicate zero z e = refl
+vals-replicate (suc m) z e = ap₂ _∷_ e (vals-replicate m z e)
+
+take-replicate : (k m : ℕ) → k ≤ m → _≡_ {A = List ℕ} (take k (replicate m 0)) (replicate k 0)
+take-replicate zero m h = refl
+take-replicate (suc k) zero h = absurd (not-suc-le-zero h)
+take-replicate (suc k) (suc m) h = ap (λ (l : List ℕ). 0 ∷ l) (take-replicate k m (le-of-suc-le-suc h))
+
+-- zero rows behind the words, from the array and from the definition
+pads : (w : List ℕ) (m k j i : ℕ) → k ≤ m → k ≤ j → i ≡ min (length w) m → take k (take i w ++ drop i (replicate m 0)) ≡ take k (w ++ replicate j 0)
+pads [] m k j zero h g e = take-replicate k m h ∙ sym (take-replicate k j g)
+pads [] m k j (suc i) h g e = absurd (omega arith)
+pads (x ∷ w) m zero j i h g e = refl
+pads (x ∷ w) zero (suc k) j i h g e = absurd (not-suc-le-zero h)
+pads (x ∷ w) (suc m) (suc k) j zero h g e = absurd (omega arith)
+pads (x ∷ w) (suc m) (suc k) j (suc i) h g e =
+    ap (λ (l : List ℕ). x ∷ l) (pads w m k j i (le-of-suc-le-suc h) (omega arith) (omega arith))
+
+pub padded-rows : (w : List ℕ) (m k i : ℕ) → k ≤ m → i ≡ min (length w) m → take k (take i w ++ drop i (replicate m 0)) ≡ padded k w
+unfolding padded
+padded-rows w m k i h e = pads w m k k i h (omega arith) e
+
+-- exactly as many words as there are rows
+pub padded-is : (m : ℕ) (w : List ℕ) → length w ≡ m → padded m w ≡ w
+unfolding padded
+padded-is m w e = take-at w (replicate m 0) m e
+
+-- an action loaded from exactly as many words as there are rows, at no more qubits than the most
+pub loaded : (a : Action) (n : ℕ) (w : List ℕ) → n ≤ 32 → length w ≡ n + n → qubits a ≡ capped n → matrix a ≡ padded (capped n + capped n) w → (qubits a ≡ n) × (matrix a ≡ w)
+loaded a n w h size q m =
+    let e = capped-is n h in
+    (q ∙ e, m ∙ padded-is (capped n + capped n) w (size ∙ ap (λ (k : ℕ). k + k) (sym e)))

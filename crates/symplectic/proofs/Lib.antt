@@ -1,0 +1,11 @@
+pub mod Transvections
+pub mod Wall
+pub mod Pairings
+pub mod Lists
+pub mod Products
+pub mod Layers
+pub mod Arrays
+pub mod Tests
+pub mod Questions
+pub mod Picked
+pub mod FirstPicks

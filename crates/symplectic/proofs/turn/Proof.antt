@@ -1,0 +1,32 @@
+-- `turn` adds v where the pairing is 1.
+-- Assumes nothing.
+use mathlib.Core.Path.{sym, ap, _∙_}
+use mathlib.Core.Bool.{Bool}
+use Rattle.binar.specs.Bits.{_⊕_, select}
+use Rattle.binar.specs.Rows.{val}
+use Rattle.binar.proofs.Sums.{sum-zero}
+use Rattle.symplectic.specs.Turns.{turn}
+use borrow.Author.Needs.{needs}
+use Rattle.symplectic.proofs.turn.Statement.{statement}
+use Rattle.symplectic.proofs.turn.Tie as tie
+
+pairing-requires : tie.Need-pairing-requires
+pairing-requires c κs = search needs
+
+sum-requires : tie.Need-sum-requires
+sum-requires c κs = search needs
+
+returns : tie.Need-returns
+unfolding turn
+returns c =
+    let s = c .before .before .before .args in
+    c .sum .ensures ∙ ap (λ (b : Bool). val (s .u) ⊕ select 0 b (val (s .v))) (sym (c .before .if1 .taken) ∙ c .before .before .pairing .ensures)
+
+returns-2 : tie.Need-returns-2
+unfolding turn
+returns-2 c =
+    let s = c .before .before .args in
+    sym (sum-zero (val (s .u))) ∙ ap (λ (b : Bool). val (s .u) ⊕ select 0 b (val (s .v))) (sym (c .if1 .left) ∙ c .before .pairing .ensures)
+
+pub turn-spec : {M : Type 1} → statement M
+turn-spec = tie.close (tie.spec pairing-requires sum-requires returns returns-2)

@@ -1,0 +1,5 @@
+pub mod Ranks
+pub mod Taken
+pub mod Records
+pub mod Ends
+pub mod Choices

@@ -1,0 +1,4 @@
+pub mod Lengths
+pub mod Minimal
+pub mod Ends
+pub mod Replies

@@ -1,0 +1,157 @@
+-- The minimal call, whatever it is called with: an answer's list has the product F and no list is shorter; a refusal changes nothing; budget and looks are exact.
+-- Assumes nothing.
+use mathlib.Core.Path.{_≡_, refl, sym, ap, _∙_, subst}
+use mathlib.Core.Bool.{Bool, true, false}
+use mathlib.Core.List.{List, map}
+use mathlib.Core.Option.{Option, none, some}
+use Prim.Native.Nat.{ℕ, zero, suc, _+_, _^_, _≤_, _<_}
+use native.Mathlib.Omega.{arith}
+use lib.Dec.{leb, eqb}
+use lib.ListN.{length, take, drop}
+use borrow.Author.Tests.{leb-true, leb-false}
+use Rattle.blocks.specs.Matrices.{times, All}
+use Rattle.blocks.specs.Words.{rowsOfWords}
+use Rattle.symplectic.specs.Actions.{maxQubits}
+use Rattle.symplectic.specs.Turns.{product, symplectic}
+use Rattle.symplectic.specs.Replies.{Reply, ask, andThen, unlessRefused, fitAll, sizeQuestion, countQuestion, actionQuestions, listQuestions}
+use Rattle.symplectic.proofs.Questions.{passed-count, passed-rows, passed-symplectic, list-known}
+use Rattle.reduction.specs.Residue.{basis}
+use Rattle.triangular.specs.Search.{Outcome, found, failed, looksOf, endedIf, budgeted}
+use Rattle.bordered.specs.Checks.{borderedList}
+use Rattle.bordered.proofs.Verified.{Passed, bordered-passed}
+use Rattle.transvection_exact.specs.Shortest.{NoneShorter}
+use Rattle.transvection_exact.specs.Minimal.{coreSearch, borderedReply, endedReply, searchedReply, minimalReply}
+use Rattle.transvection_exact.proofs.Minimal.{Least, least-of-search, found-shortest, bordered-shortest}
+use Rattle.transvection_exact.proofs.Ends.{Ends, early, beyond, unbordered, answered, Answer, answer, count-is, looks-are, taken-is, rest-is, left-of, spent-of, of-spent, unbordered-of, early-of, small-of}
+
+-- ---- the questions before the search have numbers up to 5
+
+ask-small : (b : Bool) (k later : ℕ) → k ≤ 5 → later ≤ 5 → ask b k later ≤ 5
+ask-small true k later h l = l
+ask-small false k later h l = h
+
+then-small : (first later : ℕ) → first ≤ 5 → later ≤ 5 → andThen first later ≤ 5
+then-small zero later h l = l
+then-small (suc k) later h l = h
+
+pub list-small : (n : ℕ) (rows : List ℕ) (wanted lent : ℕ) → listQuestions n rows wanted lent ≤ 5
+unfolding listQuestions actionQuestions sizeQuestion countQuestion
+list-small n rows wanted lent =
+    then-small _ _
+    (ask-small (leb n maxQubits) 1 _ (omega arith)
+    (ask-small (eqb (length rows) (n + n)) 2 _ (omega arith)
+    (ask-small (fitAll (n + n) rows) 3 _ (omega arith) (ask-small (symplectic n rows) 4 0 (omega arith) (omega arith)))))
+    (ask-small (leb wanted lent) 5 0 (omega arith) (omega arith))
+
+-- ---- every call has one of the four ends
+
+module _ (n : ℕ) (words : List ℕ) (budget : ℕ) (out : List ℕ) where
+  abbrev pub rows : List ℕ
+  rows = rowsOfWords words
+
+  abbrev pub asked : ℕ
+  asked = listQuestions n rows (n + n + 1) (length out)
+
+  abbrev pub wanted : ℕ
+  wanted = looksOf (coreSearch n rows)
+
+  module _ (passed : asked ≡ 0) where
+    known : (actionQuestions n rows ≡ 0) × (n + n + 1 ≤ length out)
+    known = list-known n rows (n + n + 1) (length out) passed
+
+    size : length rows ≡ n + n
+    size = passed-count n rows (known .0)
+
+    bounded : All (λ f. f < 2 ^ (n + n)) rows
+    bounded = passed-rows n rows (known .0)
+
+    by-border : (o : Option (List ℕ)) (looks : ℕ) → borderedList n rows ≡ o → Passed n rows o → NoneShorter n rows (suc (length (basis n rows)))
+        → looks ≤ budget → Ends n rows asked budget looks out (borderedReply o looks out)
+    by-border none looks e p h l = unbordered passed l e refl
+    by-border (some vs) looks e p h l = answered vs passed l (known .1) (bordered-shortest n rows size bounded vs h p) refl
+
+    by-search : (o : Outcome) → Least n rows o → looksOf o ≤ budget → Ends n rows asked budget (looksOf o) out (endedReply n rows o out)
+    by-search (found ps looks) h l =
+        answered (map (λ p. times p (basis n rows)) ps) passed l (known .1) (found-shortest n rows size bounded ps looks h) refl
+    by-search (failed looks) h l = by-border (borderedList n rows) looks refl (bordered-passed n rows) h l
+
+    by-budget : (b : Bool) → leb wanted budget ≡ b → Ends n rows asked budget wanted out (searchedReply n rows (endedIf b (coreSearch n rows) budget) out)
+    by-budget true e =
+        by-search (coreSearch n rows) (least-of-search n rows size bounded (passed-symplectic n rows (known .0))) (leb-true wanted budget e)
+    by-budget false e = beyond passed (leb-false wanted budget e) refl
+
+  pub minimal-ends : Ends n rows asked budget wanted out (minimalReply n words budget out)
+  unfolding minimalReply budgeted
+  minimal-ends = go asked refl (list-small n rows (n + n + 1) (length out))
+    where
+      go : (k : ℕ) → asked ≡ k → k ≤ 5
+          → Ends n rows asked budget wanted out (unlessRefused k out (searchedReply n rows (budgeted budget (coreSearch n rows)) out))
+      go zero e l = by-budget e (leb wanted budget) refl
+      go (suc k) e l = early k e l refl
+
+  -- ---- what the reply says
+
+  abbrev pub reply : Reply
+  reply = minimalReply n words budget out
+
+  module _ (z : reply .number ≡ 0) where
+    abbrev the : Answer n rows asked budget wanted out reply
+    the = answer n rows asked budget wanted out reply minimal-ends z
+
+    is-the-list : take (reply .count) (rowsOfWords (reply .words)) ≡ the .list
+    is-the-list = taken-is n rows asked budget wanted out reply the
+
+    count-the : reply .count ≡ length (the .list)
+    count-the = count-is n rows asked budget wanted out reply the
+
+    -- the listed words, from the start of the output, multiplied out
+    pub answered-product : product n (take (reply .count) (rowsOfWords (reply .words))) ≡ rows
+    answered-product = ap (product n) is-the-list ∙ the .shortest .replays
+
+    pub answered-shortest : NoneShorter n rows (reply .count)
+    answered-shortest = subst (NoneShorter n rows) (sym count-the) (the .shortest .least)
+
+    pub answered-fits : All (λ v. v < 2 ^ (n + n)) (take (reply .count) (rowsOfWords (reply .words)))
+    answered-fits = subst (All (λ v. v < 2 ^ (n + n))) (sym is-the-list) (the .shortest .fits)
+
+    pub answered-room : (reply .count ≤ n + n + 1) × (n + n + 1 ≤ length out)
+    answered-room = (subst (λ k. k ≤ n + n + 1) (sym count-the) (the .shortest .room), the .lent)
+
+    -- the words past the list
+    pub answered-rest : drop (reply .count) (reply .words) ≡ drop (reply .count) out
+    answered-rest = rest-is n rows asked budget wanted out reply the
+
+    pub answered-looks : reply .looks ≡ wanted
+    answered-looks = looks-are n rows asked budget wanted out reply the
+
+    pub answered-within : (asked ≡ 0) × (wanted ≤ budget)
+    answered-within = (the .passed, the .ended)
+
+  pub refused-left : (reply .number ≡ 0 → ⊥) → (reply .words ≡ out) × (reply .count ≡ 0)
+  refused-left = left-of n rows asked budget wanted out reply minimal-ends
+
+  -- 6 just where the questions before are passed and the search takes a look beyond the budget
+  pub spent-only : reply .number ≡ 6 → (asked ≡ 0) × (budget < wanted)
+  spent-only z = let s = spent-of n rows asked budget wanted out reply minimal-ends z in (s .0, s .1)
+
+  pub spent-where : asked ≡ 0 → budget < wanted → reply .number ≡ 6
+  spent-where = of-spent n rows asked budget wanted out reply minimal-ends
+
+  pub spent-looks : reply .number ≡ 6 → reply .looks ≡ budget
+  spent-looks z = spent-of n rows asked budget wanted out reply minimal-ends z .2
+
+  pub unbordered-only : reply .number ≡ 7 → (asked ≡ 0) × (wanted ≤ budget) × (borderedList n rows ≡ none)
+  unbordered-only z = let s = unbordered-of n rows asked budget wanted out reply minimal-ends z in (s .0, s .1, s .2)
+
+  pub unbordered-looks : reply .number ≡ 7 → reply .looks ≡ wanted
+  unbordered-looks z = unbordered-of n rows asked budget wanted out reply minimal-ends z .3
+
+  pub early-number : 0 < reply .number → reply .number < 6 → reply .number ≡ asked
+  early-number g l = early-of n rows asked budget wanted out reply minimal-ends g l .0
+
+  pub early-looks : 0 < reply .number → reply .number < 6 → reply .looks ≡ 0
+  early-looks g l = early-of n rows asked budget wanted out reply minimal-ends g l .1
+
+  -- there is no other number
+  pub number-small : reply .number ≤ 7
+  number-small = small-of n rows asked budget wanted out reply minimal-ends

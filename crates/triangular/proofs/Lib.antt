@@ -1,0 +1,5 @@
+pub mod Complements
+pub mod Alternates
+pub mod Complete
+pub mod Looks
+pub mod Budgets
