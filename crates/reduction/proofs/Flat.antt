@@ -1,7 +1,7 @@
 -- A column's step where all rows stand in one list: the first row at or below the pivot row that has the column is exchanged with the pivot row, then every other row is cleared.
 -- Assumes nothing.
 use mathlib.Core.Path.{_≡_, refl, sym, ap, ap₂, _∙_, subst}
-use mathlib.Core.Bool.{Bool, true, false}
+use mathlib.Core.Bool.{Bool, false}
 use mathlib.Core.List.{List, [], _∷_, _++_, map}
 use Prim.Native.Nat.{ℕ, zero, suc, _+_, _-_, _≤_, _<_, zero-le, suc-le-suc}
 use native.Mathlib.Omega.{arith}
@@ -11,6 +11,7 @@ use lib.ListN.{length, take, drop, getD, set, length-set}
 use lib.Seq.{take-set-le}
 use Rattle.blocks.proofs.Firsts.{First, first-later, first-inner}
 use Rattle.reduction.specs.Columns.{nothing, pulled, putIf, put, pullIf, pull, Halves, clear, columnBy, column, columns}
+use Rattle.reduction.specs.Sweeps.{halves}
 
 -- the rows p and j exchanged
 abbrev pub swapped : {A : Type 0} → A → ℕ → ℕ → List A → List A
@@ -54,10 +55,6 @@ module _ {A : Type 0} (has : A → Bool) (d : A) where
   pull-none (suc p) (t ∷ ts) f = pull-none p ts (λ i a l. f (suc i) (suc-le-suc a) (suc-le-suc l))
 
 -- ---- a column
-
--- all rows with the pivot row at p
-abbrev pub halves : {A : Type 0} → ℕ → List A → Halves A
-halves p l = record { up = take p l; down = drop p l }
 
 -- every row but row p changed
 unfoldable pub others : {A : Type 0} → (A → A) → ℕ → List A → List A

@@ -8,3 +8,5 @@ pub mod Core
 pub mod Flat
 pub mod Sweep
 pub mod TwoLists
+pub mod Loops
+pub mod Parts

@@ -14,94 +14,83 @@ use lib.ListN.{length, getD, set, length-set, length-map}
 use lib.Seq.{getD-set-same, getD-set-other, ext-getD}
 use Rattle.binar.specs.Bits.{select}
 use Rattle.reduction.specs.Columns.{clear}
+use Rattle.reduction.specs.Sweeps.{sweepIf, swept}
 use Rattle.reduction.proofs.Flat.{others}
 
+-- ---- a turn of the loop
+
+module _ {A : Type 0} (d : A) (add : A → A → A) (p i : ℕ) (l : List A) where
+  pub sweep-self : (b : Bool) → i ≡ p → sweepIf d add p (eqb i p) b i l ≡ l
+  sweep-self b e = ap (λ a. sweepIf d add p a b i l) (eq-eqb i p e)
+
+  pub sweep-skip : (a b : Bool) → b ≡ false → sweepIf d add p a b i l ≡ l
+  sweep-skip true b e = refl
+  sweep-skip false b e = ap (λ x. sweepIf d add p false x i l) e
+
+  pub sweep-add : (b : Bool) → (i ≡ p → ⊥) → b ≡ true → sweepIf d add p (eqb i p) b i l ≡ set l i (add (getD l i d) (getD l p d))
+  sweep-add b n e = ap₂ (λ x y. sweepIf d add p x y i l) (ne-eqb i p n) e
+
 module _ {A : Type 0} (d : A) (add : A → A → A) (t : ℕ → Bool) (p : ℕ) where
-  -- row i, where it is not the pivot row and has the column
-  abbrev pub sweepIf : Bool → Bool → ℕ → List A → List A
-  sweepIf true b i l = l
-  sweepIf false false i l = l
-  sweepIf false true i l = set l i (add (getD l i d) (getD l p d))
-
-  -- the rows before i have been swept; row k has the column where t says so
-  unfoldable pub swept : ℕ → List A → List A
-  swept zero l = l
-  swept (suc i) l = sweepIf (eqb i p) (t i) i (swept i l)
-
-  -- ---- a turn of the loop
-
-  pub swept-zero : (l : List A) → swept 0 l ≡ l
+  pub swept-zero : (l : List A) → swept d add t p 0 l ≡ l
   unfolding swept
   swept-zero l = refl
 
-  pub swept-skip : (i : ℕ) (l : List A) → t i ≡ false → swept (i + 1) l ≡ swept i l
+  pub swept-next : (i : ℕ) (l : List A) → swept d add t p (i + 1) l ≡ sweepIf d add p (eqb i p) (t i) i (swept d add t p i l)
   unfolding swept
-  swept-skip i l e = ap (λ k. swept k l) (add-one i) ∙ ap (λ b. sweepIf (eqb i p) b i (swept i l)) e ∙ go (eqb i p)
-    where
-      go : (b : Bool) → sweepIf b false i (swept i l) ≡ swept i l
-      go true = refl
-      go false = refl
-
-  pub swept-self : (i : ℕ) (l : List A) → i ≡ p → swept (i + 1) l ≡ swept i l
-  unfolding swept
-  swept-self i l e = ap (λ k. swept k l) (add-one i) ∙ ap (λ b. sweepIf b (t i) i (swept i l)) (eq-eqb i p e)
-
-  pub swept-add : (i : ℕ) (l : List A) → (i ≡ p → ⊥) → t i ≡ true → swept (i + 1) l ≡ set (swept i l) i (add (getD (swept i l) i d) (getD (swept i l) p d))
-  unfolding swept
-  swept-add i l n e = ap (λ k. swept k l) (add-one i) ∙ ap₂ (λ a b. sweepIf a b i (swept i l)) (ne-eqb i p n) e
+  swept-next i l = ap (λ k. swept d add t p k l) (add-one i)
 
   -- ---- the rows meanwhile
 
-  pub swept-length : (i : ℕ) (l : List A) → length (swept i l) ≡ length l
+  pub swept-length : (i : ℕ) (l : List A) → length (swept d add t p i l) ≡ length l
   unfolding swept
   swept-length zero l = refl
   swept-length (suc i) l = go (eqb i p) (t i) ∙ swept-length i l
     where
-      go : (a b : Bool) → length (sweepIf a b i (swept i l)) ≡ length (swept i l)
+      go : (a b : Bool) → length (sweepIf d add p a b i (swept d add t p i l)) ≡ length (swept d add t p i l)
       go true b = refl
       go false false = refl
-      go false true = length-set (swept i l) i (add (getD (swept i l) i d) (getD (swept i l) p d))
+      go false true = length-set (swept d add t p i l) i (add (getD (swept d add t p i l) i d) (getD (swept d add t p i l) p d))
 
-  step-other : (a b : Bool) (i k : ℕ) (l : List A) → (k ≡ i → ⊥) → getD (sweepIf a b i l) k d ≡ getD l k d
+  step-other : (a b : Bool) (i k : ℕ) (l : List A) → (k ≡ i → ⊥) → getD (sweepIf d add p a b i l) k d ≡ getD l k d
   step-other true b i k l n = refl
   step-other false false i k l n = refl
   step-other false true i k l n = getD-set-other l i k (add (getD l i d) (getD l p d)) d n
 
   -- a row not yet swept is as it was
-  pub swept-ahead : (i k : ℕ) (l : List A) → i ≤ k → getD (swept i l) k d ≡ getD l k d
+  pub swept-ahead : (i k : ℕ) (l : List A) → i ≤ k → getD (swept d add t p i l) k d ≡ getD l k d
   unfolding swept
   swept-ahead zero k l h = refl
-  swept-ahead (suc i) k l h = step-other (eqb i p) (t i) i k (swept i l) (λ e. omega arith) ∙ swept-ahead i k l (omega arith)
+  swept-ahead (suc i) k l h = step-other (eqb i p) (t i) i k (swept d add t p i l) (λ e. omega arith) ∙ swept-ahead i k l (omega arith)
 
   -- and so is the pivot row
-  pub swept-pivot : (i : ℕ) (l : List A) → getD (swept i l) p d ≡ getD l p d
+  pub swept-pivot : (i : ℕ) (l : List A) → getD (swept d add t p i l) p d ≡ getD l p d
   unfolding swept
   swept-pivot zero l = refl
   swept-pivot (suc i) l = go (eqb i p) refl ∙ swept-pivot i l
     where
-      go : (a : Bool) → eqb i p ≡ a → getD (sweepIf a (t i) i (swept i l)) p d ≡ getD (swept i l) p d
+      go : (a : Bool) → eqb i p ≡ a → getD (sweepIf d add p a (t i) i (swept d add t p i l)) p d ≡ getD (swept d add t p i l) p d
       go true e = refl
-      go false e = step-other false (t i) i p (swept i l) (λ q. eqb-false i p e (sym q))
+      go false e = step-other false (t i) i p (swept d add t p i l) (λ q. eqb-false i p e (sym q))
 
   swept-done : (i k : ℕ) (l : List A) → k < i → k < length l → (k ≡ p → ⊥)
-      → getD (swept i l) k d ≡ select (getD l k d) (t k) (add (getD l k d) (getD l p d))
+      → getD (swept d add t p i l) k d ≡ select (getD l k d) (t k) (add (getD l k d) (getD l p d))
   unfolding swept
   swept-done zero k l h m n = absurd (not-suc-le-zero h)
   swept-done (suc i) k l h m n = go (eqb k i) refl (λ q. swept-done i k l q m n)
     where
-      now : (b : Bool) → getD (sweepIf false b k (swept k l)) k d ≡ select (getD l k d) b (add (getD l k d) (getD l p d))
+      now : (b : Bool) → getD (sweepIf d add p false b k (swept d add t p k l)) k d ≡ select (getD l k d) b (add (getD l k d) (getD l p d))
       now true =
-          getD-set-same (swept k l) k (add (getD (swept k l) k d) (getD (swept k l) p d)) d (subst (λ s. k < s) (sym (swept-length k l)) m)
+          getD-set-same (swept d add t p k l) k (add (getD (swept d add t p k l) k d) (getD (swept d add t p k l) p d)) d (subst (λ s. k < s) (sym (swept-length k l)) m)
           ∙ ap₂ add (swept-ahead k k l (omega arith)) (swept-pivot k l)
       now false = swept-ahead k k l (omega arith)
 
-      go : (b : Bool) → eqb k i ≡ b → (k < i → getD (swept i l) k d ≡ select (getD l k d) (t k) (add (getD l k d) (getD l p d)))
-          → getD (sweepIf (eqb i p) (t i) i (swept i l)) k d ≡ select (getD l k d) (t k) (add (getD l k d) (getD l p d))
+      go : (b : Bool) → eqb k i ≡ b → (k < i → getD (swept d add t p i l) k d ≡ select (getD l k d) (t k) (add (getD l k d) (getD l p d)))
+          → getD (sweepIf d add p (eqb i p) (t i) i (swept d add t p i l)) k d ≡ select (getD l k d) (t k) (add (getD l k d) (getD l p d))
       go true e earlier =
-          subst (λ s. getD (sweepIf (eqb s p) (t s) s (swept s l)) k d ≡ select (getD l k d) (t k) (add (getD l k d) (getD l p d))) (eqb-true k i e)
-          (ap (λ b. getD (sweepIf b (t k) k (swept k l)) k d) (ne-eqb k p n) ∙ now (t k))
+          subst (λ s. getD (sweepIf d add p (eqb s p) (t s) s (swept d add t p s l)) k d ≡ select (getD l k d) (t k) (add (getD l k d) (getD l p d))) (eqb-true k i e)
+          (ap (λ b. getD (sweepIf d add p b (t k) k (swept d add t p k l)) k d) (ne-eqb k p n) ∙ now (t k))
       go false e earlier =
-          step-other (eqb i p) (t i) i k (swept i l) (eqb-false k i e) ∙ earlier (⊎-elim (λ q. absurd (eqb-false k i e q)) (λ q. q) (eq-or-lt-of-le (le-of-suc-le-suc h)))
+          step-other (eqb i p) (t i) i k (swept d add t p i l) (eqb-false k i e) ∙ earlier (⊎-elim (λ q. absurd (eqb-false k i e q)) (λ q. q) (eq-or-lt-of-le (le-of-suc-le-suc h)))
 
 -- ---- every other row
 

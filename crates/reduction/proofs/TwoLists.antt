@@ -1,27 +1,26 @@
--- The steps of a column on the rows and on the transform, each in a list of its own, and on the rows alone.
+-- The steps of a column on the rows and on the transform, each in a list of its own.
 -- Assumes nothing.
 use mathlib.Core.Path.{_≡_, refl, sym, ap, ap₂, _∙_, subst}
 use mathlib.Core.Bool.{Bool, true, false}
 use mathlib.Core.List.{List, [], _∷_, map, zip, zipWith}
-use Prim.Native.Nat.{ℕ, zero, suc, _-_, _≤_, _<_}
-use native.Mathlib.Nat.{sub-zero, suc-inj, suc-ne-zero}
+use Prim.Native.Nat.{ℕ, zero, suc, _≤_, _<_}
+use native.Mathlib.Nat.{suc-inj, suc-ne-zero}
 use lib.Dec.{eqb}
 use lib.ListN.{length, take, getD, set}
 use Rattle.binar.specs.Bits.{bit, _⊕_}
-use Rattle.binar.proofs.Sums.{sum-zero}
-use Rattle.blocks.specs.Matrices.{units}
 use Rattle.linear.proofs.Sums.{add-zero}
 use Rattle.linear.proofs.Instances.{𝕎, Prod}
 use Rattle.symplectic.specs.Picks.{addBoth}
-use Rattle.reduction.specs.Columns.{clear, column, columns, reduced, rowReduceWithTransform}
+use Rattle.reduction.specs.Columns.{clear, column}
+use Rattle.reduction.specs.Sweeps.{halves, sweepIf, swept}
 use Rattle.blocks.proofs.Firsts.{First}
-use Rattle.reduction.proofs.Flat.{swapped, swapped-length, swapped-pivot, halves, others, column-at, column-none}
-use Rattle.reduction.proofs.Sweep.{sweepIf, swept, swept-length, swept-all}
+use Rattle.reduction.proofs.Flat.{swapped, swapped-length, swapped-pivot, others, column-at, column-none}
+use Rattle.reduction.proofs.Sweep.{swept-length, swept-all}
 
 -- ---- two lists of one length, side by side
 
 module _ {A B : Type 0} where
-  zip-length : (R : List A) (T : List B) → length R ≡ length T → length (zip R T) ≡ length R
+  pub zip-length : (R : List A) (T : List B) → length R ≡ length T → length (zip R T) ≡ length R
   unfolding zip zipWith
   zip-length [] T e = refl
   zip-length (r ∷ R) [] e = absurd (suc-ne-zero (length R) e)
@@ -72,7 +71,7 @@ zip-swept : (R T : List ℕ) → length R ≡ length T → (t : ℕ → Bool) (p
     → zip (swept 0 _⊕_ t p i R) (swept 0 _⊕_ t p i T) ≡ swept zeros addBoth t p i (zip R T)
 unfolding swept
 zip-swept R T e t p zero = refl
-zip-swept R T e t p (suc i) = go (eqb i p) (t i) ∙ ap (sweepIf zeros addBoth t p (eqb i p) (t i) i) (zip-swept R T e t p i)
+zip-swept R T e t p (suc i) = go (eqb i p) (t i) ∙ ap (sweepIf zeros addBoth p (eqb i p) (t i) i) (zip-swept R T e t p i)
   where
     R′ : List ℕ
     R′ = swept 0 _⊕_ t p i R
@@ -83,7 +82,7 @@ zip-swept R T e t p (suc i) = go (eqb i p) (t i) ∙ ap (sweepIf zeros addBoth t
     long : length R′ ≡ length T′
     long = swept-length 0 _⊕_ t p i R ∙ e ∙ sym (swept-length 0 _⊕_ t p i T)
 
-    go : (a b : Bool) → zip (sweepIf 0 _⊕_ t p a b i R′) (sweepIf 0 _⊕_ t p a b i T′) ≡ sweepIf zeros addBoth t p a b i (zip R′ T′)
+    go : (a b : Bool) → zip (sweepIf 0 _⊕_ p a b i R′) (sweepIf 0 _⊕_ p a b i T′) ≡ sweepIf zeros addBoth p a b i (zip R′ T′)
     go true b = refl
     go false false = refl
     go false true =
@@ -92,23 +91,6 @@ zip-swept R T e t p (suc i) = go (eqb i p) (t i) ∙ ap (sweepIf zeros addBoth t
 
 -- ---- a column
 
--- of the rows alone
-pub rows-at : (c p j : ℕ) (R : List ℕ) → First (bit c) 0 R p j
-    → column 0 _⊕_ (bit c) (halves p R) ≡ halves (suc p) (swept 0 _⊕_ (λ i. bit c (getD (swapped 0 p j R) i 0)) p (length R) (swapped 0 p j R))
-rows-at c p j R f =
-    column-at 0 _⊕_ 0 (bit c) p j R f
-    ∙ ap (halves (suc p))
-    (ap (λ x. others (clear 0 _⊕_ (bit c) x) p s) (sym (swapped-pivot 0 p j R (f .from) (f .inside)))
-    ∙ sym (swept-all 0 0 _⊕_ sum-zero (bit c) p s (λ i. bit c (getD s i 0)) (λ i h. refl))
-    ∙ ap (λ m. swept 0 _⊕_ (λ i. bit c (getD s i 0)) p m s) (swapped-length 0 p j R))
-  where
-    s : List ℕ
-    s = swapped 0 p j R
-
-pub rows-none : (c p : ℕ) (R : List ℕ) → ((i : ℕ) → p ≤ i → i < length R → bit c (getD R i 0) ≡ false) → column 0 _⊕_ (bit c) (halves p R) ≡ halves p R
-rows-none c p R f = column-none 0 _⊕_ 0 (bit c) p R f
-
--- of the rows and the transform
 pub both-at : (c p j : ℕ) (R T : List ℕ) → length R ≡ length T → First (bit c) 0 R p j
     → column (0, 0) addBoth (λ a. bit c (a .0)) (halves p (zip R T))
     ≡ halves (suc p) (zip (swept 0 _⊕_ (λ i. bit c (getD (swapped 0 p j R) i 0)) p (length R) (swapped 0 p j R))
@@ -150,14 +132,3 @@ pub both-none : (c p : ℕ) (R T : List ℕ) → length R ≡ length T → ((i :
 both-none c p R T e f =
     column-none (0, 0) addBoth (0, 0) (λ a. bit c (a .0)) p (zip R T)
     (λ i a l. ap (λ x. bit c (x .0)) (zip-at R T 0 0 e i) ∙ f i a (subst (λ m. i < m) (zip-length R T e) l))
-
--- ---- the start: no column done, and the pivot row the first
-
-pub rows-start : (m : ℕ) (M : List ℕ) → columns 0 _⊕_ bit (m - 0) 0 (halves 0 M) ≡ reduced m M
-unfolding reduced
-rows-start m M = ap (λ k. columns 0 _⊕_ bit k 0 (halves 0 M)) (sub-zero m)
-
-pub both-start : (m : ℕ) (M : List ℕ)
-    → columns (0, 0) addBoth (λ c a. bit c (a .0)) (m - 0) 0 (halves 0 (zip M (units (length M)))) ≡ rowReduceWithTransform m M
-unfolding rowReduceWithTransform
-both-start m M = ap (λ k. columns (0, 0) addBoth (λ c a. bit c (a .0)) k 0 (halves 0 (zip M (units (length M))))) (sub-zero m)

@@ -1,2 +1,3 @@
 pub mod Columns
 pub mod Residue
+pub mod Sweeps

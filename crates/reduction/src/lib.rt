@@ -1,1 +1,204 @@
-// The residue of an action, its reduction and its core. Its definitions are in specs/; nothing runs here.
+// Reduction by columns: rows with their transform, and the rank; the residue of an action, its basis and core.
+use binar::Row;
+use blocks::Block;
+use symplectic::Action;
+ghost use mathlib.Core.Path.{_≡_};
+ghost use mathlib.Core.Bool.{true, false};
+ghost use mathlib.Core.List.{_++_, map, zip};
+ghost use Prim.Native.Nat.{ℕ, _+_, _≤_, _<_};
+ghost use lib.Dec.{eqb};
+ghost use lib.ListN.{getD, take, drop, length};
+ghost use Rattle.binar.specs.Bits.{bit as bitOf, _⊕_, select};
+ghost use Rattle.binar.specs.Rows.{val, width, unit as unitOf};
+ghost use Rattle.blocks.specs.Blocks.{rowsOf};
+ghost use Rattle.blocks.specs.Matrices.{dots as dotsOf};
+ghost use Rattle.symplectic.specs.Actions.{qubits, matrix};
+ghost use Rattle.symplectic.specs.Picks.{addBoth};
+ghost use Rattle.symplectic.specs.Turns.{identityPlus};
+ghost use Rattle.reduction.specs.Columns.{column as columnOf, columns, rank as rankOf, rowReduceWithTransform};
+ghost use Rattle.reduction.specs.Sweeps.{halves, halvesOf, sweepIf, swept as sweptOf};
+ghost use Rattle.reduction.specs.Residue.{residue as residueOf, basis as basisOf, core as coreOf, timesTransposed};
+
+// Rows and transform rows in their final order: the first `rank` rows are the basis.
+pub struct Reduction {
+    pub rows: Block,
+    pub transform: Block,
+    pub rank: usize,
+}
+
+// The basis of an action's residue, and the core.
+pub struct ResidueCore {
+    pub basis: Block,
+    pub core: Block,
+}
+
+pub fn first_rows(b: Block, k: usize) -> Block
+    ensures { λ r. ⌜ rowsOf r ≡ take k (rowsOf b) ⌝ }
+{
+    if k < b.count {
+        let mut n = b;
+        n.count = k;
+        n
+    } else {
+        b
+    }
+}
+
+// The first row from p on that has column c; the count where there is none.
+fn first_with(b: Block, c: usize, p: usize) -> usize
+    ensures { λ r. ⌜ ((i : ℕ) → p ≤ i → i < r → bitOf c (getD (rowsOf b) i 0) ≡ false)
+        × (r < length (rowsOf b) → (p ≤ r) × (bitOf c (getD (rowsOf b) r 0) ≡ true)) × (r ≤ length (rowsOf b)) ⌝ }
+{
+    let k = blocks::length_of(b);
+    for i in p..k {
+        if binar::bit(blocks::get(b, i), c) {
+            return i;
+        }
+    }
+    k
+}
+
+// Row p added to row i, where that is another row and has the column.
+fn sweep_row(b: Block, p: usize, i: usize, has: bool) -> Block
+    ensures { λ r. ⌜ rowsOf r ≡ sweepIf 0 _⊕_ p (eqb i p) has i (rowsOf b) ⌝ }
+{
+    if i == p {
+        return b;
+    }
+    if has {
+        return blocks::put(b, i, binar::sum(blocks::get(b, i), blocks::get(b, p)));
+    }
+    b
+}
+
+// Row p added to every other row i for which row i of `test` has column c.
+fn swept(b: Block, test: Block, c: usize, p: usize) -> Block
+    ensures { λ r. ⌜ rowsOf r ≡ sweptOf 0 _⊕_ (λ i. bitOf c (getD (rowsOf test) i 0)) p (length (rowsOf b)) (rowsOf b) ⌝ }
+{
+    let k = blocks::length_of(b);
+    let mut n = b;
+    for i in 0..k {
+        n = sweep_row(n, p, i, binar::bit(blocks::get(test, i), c));
+    }
+    n
+}
+
+// One column: the first row that has it is exchanged up, then cleared from every other row.
+fn column(r: Reduction, c: usize) -> Reduction
+    requires { ⌜ (length (rowsOf (r .rows)) ≡ length (rowsOf (r .transform))) × (r .rank ≤ length (rowsOf (r .rows))) ⌝ }
+    ensures { λ s. ⌜ (length (rowsOf (s .rows)) ≡ length (rowsOf (s .transform))) × (s .rank ≤ length (rowsOf (s .rows)))
+        × (halvesOf s ≡ columnOf (0, 0) addBoth (λ a. bitOf c (a .0)) (halvesOf r)) ⌝ }
+{
+    let p = r.rank;
+    let j = first_with(r.rows, c, p);
+    if j < blocks::length_of(r.rows) {
+        let rows = blocks::exchange(r.rows, p, j);
+        let transform = blocks::exchange(r.transform, p, j);
+        return Reduction {
+            rows: swept(rows, rows, c, p),
+            transform: swept(transform, rows, c, p),
+            rank: p + 1,
+        };
+    }
+    r
+}
+
+// The first m columns, one after the other.
+fn by_columns(m: usize, rows: Block, transform: Block) -> Reduction
+    requires { ⌜ length (rowsOf rows) ≡ length (rowsOf transform) ⌝ }
+    ensures { λ r. ⌜ (length (rowsOf (r .rows)) ≡ length (rowsOf (r .transform))) × (r .rank ≤ length (rowsOf (r .rows)))
+        × (halvesOf r ≡ columns (0, 0) addBoth (λ c a. bitOf c (a .0)) m 0 (halves 0 (zip (rowsOf rows) (rowsOf transform)))) ⌝ }
+{
+    let mut r = Reduction {
+        rows: rows,
+        transform: transform,
+        rank: 0,
+    };
+    for c in 0..m {
+        r = column(r, c);
+    }
+    r
+}
+
+// A row has a column for each of 64 transform rows: rows past the first 64 are left out.
+pub fn row_reduce_with_transform(m: usize, matrix: Block) -> Reduction
+    ensures { λ r. ⌜ (let h = rowReduceWithTransform m (take width (rowsOf matrix)) in
+        (rowsOf (r .rows) ≡ map (λ a. a .0) (h .up ++ h .down)) × (rowsOf (r .transform) ≡ map (λ a. a .1) (h .up ++ h .down)) × (r .rank ≡ length (h .up))) ⌝ }
+{
+    let rows = first_rows(matrix, 64);
+    let k = blocks::length_of(rows);
+    by_columns(m, rows, blocks::identity(k))
+}
+
+pub fn rank(m: usize, matrix: Block) -> usize
+    ensures { λ r. ⌜ r ≡ rankOf m (rowsOf matrix) ⌝ }
+{
+    let r = by_columns(m, matrix, matrix);
+    r.rank
+}
+
+fn with_unit(w: Row, k: usize, on: bool) -> Row
+    ensures { λ r. ⌜ val r ≡ val w ⊕ select 0 on (unitOf k) ⌝ }
+{
+    if on { binar::sum(w, binar::unit(k)) } else { w }
+}
+
+// The row whose column i is the dot of v and row i: v times the matrix transposed.
+fn dots(v: Row, b: Block) -> Row
+    ensures { λ r. ⌜ val r ≡ dotsOf (take width (rowsOf b)) (val v) ⌝ }
+{
+    let rows = first_rows(b, 64);
+    let k = blocks::length_of(rows);
+    let mut w = binar::zero();
+    for i in 0..k {
+        w = with_unit(w, i, binar::dot(v, blocks::get(rows, i)));
+    }
+    w
+}
+
+// A row has a column for each of the first 64 rows of r: those past them are left out.
+pub fn times_transposed(b: Block, r: Block) -> Block
+    ensures { λ e. ⌜ rowsOf e ≡ timesTransposed (rowsOf b) (take width (rowsOf r)) ⌝ }
+{
+    let k = blocks::length_of(b);
+    let mut n = blocks::empty();
+    for i in 0..k {
+        n = blocks::push(n, dots(blocks::get(b, i), r));
+    }
+    n
+}
+
+// Rows j to k of I + F, behind those of b.
+fn with_rows(b: Block, a: Action, j: usize, k: usize) -> Block
+    requires { ⌜ (j ≤ k) × (k ≤ qubits a + qubits a) × (length (rowsOf b) + k ≤ j + 65) ⌝ }
+    ensures { λ r. ⌜ rowsOf r ≡ rowsOf b ++ drop j (take k (identityPlus (qubits a) (matrix a))) ⌝ }
+{
+    let mut n = b;
+    for i in j..k {
+        n = blocks::push(n, binar::sum(a.rows[i], binar::unit(i)));
+    }
+    n
+}
+
+// I + F with the upper and lower n rows exchanged.
+pub fn residue(a: Action) -> Block
+    ensures { λ r. ⌜ rowsOf r ≡ residueOf (qubits a) (matrix a) ⌝ }
+{
+    let n = symplectic::width(a);
+    let m = n + n;
+    let lower = with_rows(blocks::empty(), a, n, m);
+    with_rows(lower, a, 0, n)
+}
+
+pub fn residue_core(a: Action) -> ResidueCore
+    ensures { λ r. ⌜ (rowsOf (r .basis) ≡ basisOf (qubits a) (matrix a)) × (rowsOf (r .core) ≡ coreOf (qubits a) (matrix a)) ⌝ }
+{
+    let n = symplectic::width(a);
+    let r = row_reduce_with_transform(n + n, residue(a));
+    let basis = first_rows(r.rows, r.rank);
+    let transform = first_rows(r.transform, r.rank);
+    ResidueCore {
+        basis: basis,
+        core: times_transposed(basis, transform),
+    }
+}

@@ -1,0 +1,129 @@
+-- One turn of a loop, and its end: the search of a column's first row, the exchange and the sweep, the reduction's two lists, dots and products with a transposed matrix.
+-- Assumes nothing.
+use mathlib.Core.Path.{_≡_, refl, sym, ap, ap₂, _∙_, subst}
+use mathlib.Core.Bool.{Bool, true, false}
+use mathlib.Core.List.{List, [], _∷_, _++_, map, zip}
+use mathlib.Core.Logic.{⊎-elim}
+use Prim.Native.Nat.{ℕ, suc, _+_, _*_, _^_, _≤_, _<_}
+use native.Mathlib.Omega.{arith}
+use native.Mathlib.Nat.{pow-suc, eq-or-lt-of-le}
+use native.Mathlib.Numerals.{add-one}
+use lib.ListN.{length, take, getD, length-map, take-append-drop}
+use lib.Seq.{take-all, take-length, take-suc, length-take-le}
+use Rattle.binar.specs.Bits.{select, digit, bit, dot, _⊕_}
+use Rattle.binar.proofs.Digits.{digit-lt}
+use Rattle.binar.proofs.Sums.{zero-sum, sum-zero, sum-parts}
+use Rattle.blocks.specs.Matrices.{dots, exchanged, units}
+use Rattle.blocks.proofs.Values.{exchanged-in}
+use Rattle.blocks.proofs.Firsts.{First}
+use Rattle.symplectic.specs.Picks.{addBoth}
+use Rattle.reduction.specs.Columns.{Halves, column, columns, reduced, rank, rowReduceWithTransform}
+use Rattle.reduction.specs.Sweeps.{halves, swept}
+use Rattle.reduction.proofs.Columns.{columns-map}
+use Rattle.reduction.proofs.Flat.{swapped, swapped-length}
+use Rattle.reduction.proofs.Sweep.{swept-length}
+use Rattle.reduction.proofs.TwoLists.{zip-length, above-left, above-right, both-at}
+
+-- ---- the search
+
+-- none before, nor here
+pub none-more : (has : ℕ → Bool) (p i : ℕ) → ((x : ℕ) → p ≤ x → x < i → has x ≡ false) → has i ≡ false → (x : ℕ) → p ≤ x → x < i + 1 → has x ≡ false
+none-more has p i f e x a l = ⊎-elim (λ q. ap has q ∙ e) (λ q. f x a q) (eq-or-lt-of-le (omega arith))
+
+-- ---- a column
+
+pub column-done : (c p j : ℕ) (R T R₁ T₁ R₂ T₂ : List ℕ) → length R ≡ length T → First (bit c) 0 R p j
+    → R₁ ≡ exchanged p j R → T₁ ≡ exchanged p j T
+    → R₂ ≡ swept 0 _⊕_ (λ i. bit c (getD R₁ i 0)) p (length R₁) R₁ → T₂ ≡ swept 0 _⊕_ (λ i. bit c (getD R₁ i 0)) p (length T₁) T₁
+    → (length R₂ ≡ length T₂) × (p + 1 ≤ length R₂) × (halves (p + 1) (zip R₂ T₂) ≡ column (0, 0) addBoth (λ a. bit c (a .0)) (halves p (zip R T)))
+column-done c p j R T R₁ T₁ R₂ T₂ e f r₁ t₁ r₂ t₂ =
+    let from = f .from in
+    let inside = f .inside in
+    (long ∙ e ∙ sym long′, omega (arith, long), ap₂ (λ k l. halves k l) (add-one p) (ap₂ zip rows transform) ∙ sym (both-at c p j R T e f))
+  where
+    R′ : List ℕ
+    R′ = swapped 0 p j R
+
+    T′ : List ℕ
+    T′ = swapped 0 p j T
+
+    inside-p : p < length R
+    inside-p = let a = f .from in let b = f .inside in omega arith
+
+    r′ : R₁ ≡ R′
+    r′ = r₁ ∙ exchanged-in p j R inside-p (f .inside)
+
+    t′ : T₁ ≡ T′
+    t′ = t₁ ∙ exchanged-in p j T (subst (λ m. p < m) e inside-p) (subst (λ m. j < m) e (f .inside))
+
+    rows : R₂ ≡ swept 0 _⊕_ (λ i. bit c (getD R′ i 0)) p (length R) R′
+    rows = r₂ ∙ ap (λ l. swept 0 _⊕_ (λ i. bit c (getD l i 0)) p (length l) l) r′ ∙ ap (λ m. swept 0 _⊕_ (λ i. bit c (getD R′ i 0)) p m R′) (swapped-length 0 p j R)
+
+    transform : T₂ ≡ swept 0 _⊕_ (λ i. bit c (getD R′ i 0)) p (length R) T′
+    transform =
+        t₂ ∙ ap₂ (λ k l. swept 0 _⊕_ (λ i. bit c (getD k i 0)) p (length l) l) r′ t′
+        ∙ ap (λ m. swept 0 _⊕_ (λ i. bit c (getD R′ i 0)) p m T′) (swapped-length 0 p j T ∙ sym e)
+
+    long : length R₂ ≡ length R
+    long = ap length rows ∙ swept-length 0 _⊕_ (λ i. bit c (getD R′ i 0)) p (length R) R′ ∙ swapped-length 0 p j R
+
+    long′ : length T₂ ≡ length T
+    long′ = ap length transform ∙ swept-length 0 _⊕_ (λ i. bit c (getD R′ i 0)) p (length R) T′ ∙ swapped-length 0 p j T
+
+-- ---- the two lists at the end
+
+module _ (p : ℕ) (R T : List ℕ) (h : Halves (ℕ × ℕ)) (e : length R ≡ length T) (is : halves p (zip R T) ≡ h) where
+  joined : h .up ++ h .down ≡ take (length R) (zip R T)
+  joined = ap (λ k. k .up ++ k .down) (sym is) ∙ take-append-drop p (zip R T) ∙ sym (take-all (length R) (zip R T) (omega (arith, zip-length R T e)))
+
+  pub rows-of : R ≡ map (λ a. a .0) (h .up ++ h .down)
+  rows-of = sym (ap (map (λ a. a .0)) joined ∙ above-left (length R) R T e ∙ take-length R)
+
+  pub transform-of : T ≡ map (λ a. a .1) (h .up ++ h .down)
+  transform-of = sym (ap (map (λ a. a .1)) joined ∙ above-right (length R) R T e ∙ ap (λ k. take k T) e ∙ take-length T)
+
+  pub rank-of : p ≤ length R → p ≡ length (h .up)
+  rank-of l = sym (ap (λ k. length (k .up)) (sym is) ∙ length-take-le p (zip R T) (subst (λ k. p ≤ k) (sym (zip-length R T e)) l))
+
+-- the rank, whatever rows stand beside
+pub rank-beside : (m : ℕ) (R T : List ℕ) → length R ≡ length T
+    → length (columns (0, 0) addBoth (λ c a. bit c (a .0)) m 0 (halves 0 (zip R T)) .up) ≡ rank m R
+unfolding rank reduced
+rank-beside m R T e =
+    sym (length-map (columns (0, 0) addBoth (λ c a. bit c (a .0)) m 0 (halves 0 (zip R T)) .up) (λ a. a .0))
+    ∙ ap (λ k. length (k .up)) (sym (columns-map (λ a. a .0) (0, 0) addBoth 0 _⊕_ refl (λ x y. refl) bit m 0 (halves 0 (zip R T))))
+    ∙ ap (λ l. length (columns 0 _⊕_ bit m 0 (record { up = []; down = l }) .up)) (sym (rows-of 0 R T (halves 0 (zip R T)) e refl))
+
+-- ---- dots, column by column
+
+first-digit : (b : Bool) → 0 * 2 + digit b ≡ 0 ⊕ select 0 b 1
+first-digit true = sym (zero-sum 1)
+first-digit false = sym (zero-sum 0)
+
+doubled : (b : Bool) (k : ℕ) → select 0 b (2 ^ k) * 2 + 0 ≡ select 0 b (2 ^ suc k)
+doubled true k = omega (arith, pow-suc 2 k)
+doubled false k = refl
+
+pub dots-snoc : (M : List ℕ) (x v : ℕ) → dots (M ++ (x ∷ [])) v ≡ dots M v ⊕ select 0 (dot v x) (2 ^ length M)
+unfolding dots
+dots-snoc [] x v = first-digit (dot v x)
+dots-snoc (y ∷ M) x v =
+    ap (λ t. t * 2 + digit (dot v y)) (dots-snoc M x v)
+    ∙ ap (λ t. (dots M v ⊕ select 0 (dot v x) (2 ^ length M)) * 2 + t) (sym (sum-zero (digit (dot v y))))
+    ∙ sym (sum-parts 1 (dots M v) (select 0 (dot v x) (2 ^ length M)) (digit (dot v y)) 0 (digit-lt (dot v y)) (omega arith))
+    ∙ ap (λ t. (dots M v * 2 + digit (dot v y)) ⊕ t) (doubled (dot v x) (length M))
+
+pub dots-next : (M : List ℕ) (i v : ℕ) → i < length M → dots (take (i + 1) M) v ≡ dots (take i M) v ⊕ select 0 (dot v (getD M i 0)) (2 ^ i)
+dots-next M i v h =
+    let k : i ≤ length M = omega arith in
+    ap (λ n. dots (take n M) v) (add-one i) ∙ ap (λ l. dots l v) (take-suc M i 0 h) ∙ dots-snoc (take i M) (getD M i 0) v
+    ∙ ap (λ n. dots (take i M) v ⊕ select 0 (dot v (getD M i 0)) (2 ^ n)) (length-take-le i M k)
+
+-- ---- the start of the reduction with its transform
+
+pub begun : (m : ℕ) (M R T : List ℕ) → R ≡ M → T ≡ units (length R)
+    → columns (0, 0) addBoth (λ c a. bit c (a .0)) m 0 (halves 0 (zip R T)) ≡ rowReduceWithTransform m M
+unfolding rowReduceWithTransform
+begun m M R T r t =
+    ap (λ l. columns (0, 0) addBoth (λ c a. bit c (a .0)) m 0 (halves 0 (zip R l))) t
+    ∙ ap (λ l. columns (0, 0) addBoth (λ c a. bit c (a .0)) m 0 (halves 0 (zip l (units (length l))))) r

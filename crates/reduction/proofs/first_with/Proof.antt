@@ -1,0 +1,77 @@
+-- `first_with` looks at the rows from p on: none before i has the column.
+-- Assumes nothing.
+use mathlib.Core.Path.{_≡_, sym, ap, _∙_}
+use mathlib.Core.Bool.{false}
+use Prim.Native.Nat.{ℕ, _-_, _≤_, _<_}
+use lib.ListN.{getD}
+use Rattle.binar.specs.Bits.{bit}
+use Rattle.blocks.specs.Blocks.{rowsOf}
+use Rattle.reduction.proofs.Loops.{none-more}
+use native.Mathlib.Omega.{arith}
+use borrow.Author.Needs.{needs}
+use Rattle.reduction.proofs.first_with.Statement.{statement}
+use Rattle.reduction.proofs.first_with.Tie as tie
+
+abbrev Inv-loop : tie.InvT-loop
+Inv-loop b c p k i₀ i = (p ≤ i) × ((x : ℕ) → p ≤ x → x < i → bit c (getD (rowsOf b) x 0) ≡ false)
+
+abbrev μ-loop : tie.MeasureT-loop
+μ-loop b c p k i₀ i = k - i
+
+length-of-requires : tie.Need-length-of-requires Inv-loop μ-loop
+length-of-requires c κs = search needs
+
+loop-holds : tie.Need-loop-holds Inv-loop μ-loop
+loop-holds c = (search needs, λ x a l. absurd (omega arith))
+
+get-requires : tie.Need-get-requires Inv-loop μ-loop
+get-requires c κs = search needs
+
+bit-requires : tie.Need-bit-requires Inv-loop μ-loop
+bit-requires c κs = search needs
+
+returns : tie.Need-returns Inv-loop μ-loop
+returns c =
+    let at = c .before .before .before .before .loop in
+    let b = c .before .before .before .before .before .before .args .b in
+    let k = c .before .before .before .before .before .before .args .c in (
+      at .inv .1,
+      λ h. (at .inv .0, ap (bit k) (sym (c .before .before .get .ensures)) ∙ sym (c .before .bit .ensures) ∙ c .if1 .taken),
+      omega (arith, c .before .before .before .before .before .length-of .ensures),
+    )
+
+add-i : tie.Need-add-i Inv-loop μ-loop
+add-i c = search needs
+
+loop-less : tie.Need-loop-less Inv-loop μ-loop
+loop-less c = search needs
+
+loop-again : tie.Need-loop-again Inv-loop μ-loop
+loop-again c =
+    let at = c .before .before .before .before .loop in
+    let s = c .before .before .before .before .before .before .args in (
+      search needs,
+      none-more (λ x. bit (s .c) (getD (rowsOf (s .b)) x 0)) (s .p) (at .i) (at .inv .1)
+          (ap (bit (s .c)) (sym (c .before .before .get .ensures)) ∙ sym (c .before .bit .ensures) ∙ c .if1 .left),
+    )
+
+returns-2 : tie.Need-returns-2 Inv-loop μ-loop
+returns-2 c =
+    let e = c .before .before .length-of .ensures in
+    (λ x a l. c .before .loop .inv .1 x a (omega arith), λ h. absurd (omega (arith, e)), omega (arith, e))
+
+pub first-with-spec : {M : Type 1} → statement M
+first-with-spec =
+    tie.close
+    (tie.spec
+    Inv-loop
+    μ-loop
+    length-of-requires
+    loop-holds
+    get-requires
+    bit-requires
+    returns
+    add-i
+    loop-less
+    loop-again
+    returns-2)
