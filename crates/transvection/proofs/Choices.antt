@@ -105,16 +105,16 @@ module _ (n : ℕ) (F : List ℕ) (size : length F ≡ n + n) where
   abbrev at : ℕ → ℕ × ℕ
   at i = getD pairs i (0, 0)
 
-  in-pairs : (i : ℕ) → i < n + n → i < length (besideBasis n F)
+  pub in-pairs : (i : ℕ) → i < n + n → i < length (besideBasis n F)
   in-pairs i h = subst (λ m. i < m) (sym besideBasis-length) h
 
   of-pairs : (i : ℕ) → i < length (besideBasis n F) → i < n + n
   of-pairs i h = subst (λ m. i < m) besideBasis-length h
 
-  own : (i : ℕ) (b : Bool) → i < n + n → meets n F i i ≡ b → rowPairing n (at i) (at i) ≡ b
+  pub own : (i : ℕ) (b : Bool) → i < n + n → meets n F i i ≡ b → rowPairing n (at i) (at i) ≡ b
   own i b h e = rowPairing-at i i (0, 0) h h ∙ e
 
-  both : (i j : ℕ) (b : Bool) → i < n + n → j < n + n → differs n F i j ≡ b → uneven addBoth (rowPairing n) (at i) (at j) ≡ b
+  pub both : (i j : ℕ) (b : Bool) → i < n + n → j < n + n → differs n F i j ≡ b → uneven addBoth (rowPairing n) (at i) (at j) ≡ b
   both i j b h k e = ap₂ _⊻_ (rowPairing-at i j (0, 0) h k) (rowPairing-at j i (0, 0) k h) ∙ e
 
   no-ones : NoOnes n F → firstOne addBoth (rowPairing n) (besideBasis n F) ≡ none

@@ -46,6 +46,10 @@ record-step n m i F vs all v l h e =
 pub record-done : (n k : ℕ) (F vs all : List ℕ) → vs ++ recorded n k F ≡ all → nextTransvection n F ≡ none → vs ≡ all
 record-done n k F vs all h e = sym (append-nil vs) ∙ ap (λ l. vs ++ l) (sym (recorded-none n k F e)) ∙ h
 
+-- as many turns as there may be
+pub record-end : (n k : ℕ) (F vs all : List ℕ) → vs ++ recorded n k F ≡ all → k ≡ 0 → vs ≡ all
+record-end n k F vs all h e = sym (append-nil vs) ∙ ap (λ l. vs ++ l) (sym (ap (λ j. recorded n j F) e ∙ recorded-zero n F)) ∙ h
+
 -- ---- what a step keeps
 
 -- a symplectic matrix of 2n rows of 2n columns

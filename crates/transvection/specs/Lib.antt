@@ -1,1 +1,2 @@
 pub mod Greedy
+pub mod Answers

@@ -1,0 +1,137 @@
+-- `pair_with` passes over the rows that make no pair with row i, by `with-skip`, and sums row i and the next, by `with-here`.
+-- Assumes nothing.
+use mathlib.Core.Path.{_≡_, refl, sym, ap, ap₂, _∙_}
+use mathlib.Core.Bool.{Bool, true, false, not, Bool·beq}
+use mathlib.Core.Option.{some}
+use Prim.Native.Nat.{ℕ, _+_, _-_, _^_, _≤_, _<_}
+use native.Mathlib.Omega.{arith}
+use lib.ListN.{length}
+use Rattle.binar.specs.Bits.{_⊻_, _⊕_}
+use Rattle.blocks.proofs.Values.{unmapped}
+use Rattle.symplectic.specs.Turns.{pairing}
+use Rattle.symplectic.specs.Actions.{qubits, matrix}
+use Rattle.symplectic.proofs.Arrays.{qubits-le, matrix-length}
+use Rattle.transvection.specs.Answers.{chosen, withFrom}
+use Rattle.transvection.proofs.Choices.{differs}
+use Rattle.transvection.proofs.Searches.{with-skip, with-here, with-end}
+use borrow.Author.Needs.{needs}
+use Rattle.transvection.proofs.pair_with.Statement.{statement}
+use Rattle.transvection.proofs.pair_with.Tie as tie
+
+abbrev Inv-loop : tie.InvT-loop
+Inv-loop a i n count u j₀ j =
+    (count ≤ 64) × (i < count) × (withFrom (qubits a) (matrix a) i j ≡ withFrom (qubits a) (matrix a) i (i + 1))
+
+abbrev μ-loop : tie.MeasureT-loop
+μ-loop a i n count u j₀ j = count - j
+
+size : (c : tie.Start Inv-loop μ-loop) → length (matrix (c .args .a)) ≡ qubits (c .args .a) + qubits (c .args .a)
+size c = matrix-length (c .args .a) (search (needs, unmapped))
+
+sum-of : (a b : Bool) → a ⊻ b ≡ not (Bool·beq a b)
+sum-of true true = refl
+sum-of true false = refl
+sum-of false true = refl
+sum-of false false = refl
+
+below : (c : tie.After-meets2 Inv-loop μ-loop) → c .before .before .before .before .before .loop .j < qubits (c .before .before .before .before .before .before .before .before .args .a) + qubits (c .before .before .before .before .before .before .before .before .args .a)
+below c = omega (arith, c .before .before .before .before .before .before .before .width .ensures)
+
+-- the code's test is that of the rule
+tested : (c : tie.After-meets2 Inv-loop μ-loop)
+    → differs (qubits (c .before .before .before .before .before .before .before .before .args .a)) (matrix (c .before .before .before .before .before .before .before .before .args .a)) (c .before .before .before .before .before .before .before .before .args .i) (c .before .before .before .before .before .loop .j)
+    ≡ not (Bool·beq (c .before .meets .result) (c .meets2 .result))
+tested c =
+    let e = c .before .before .before .before .before .before .before .width .ensures in
+    let first = c .before .meets .ensures ∙ ap₂ (λ (n u : ℕ). pairing n u (2 ^ c .before .before .before .before .before .loop .j)) e (c .before .before .before .before .before .before .row-at .ensures) in
+    let second = c .meets2 .ensures ∙ ap₂ (λ (n u : ℕ). pairing n u (2 ^ c .before .before .before .before .before .before .before .before .args .i)) e (c .before .before .before .row-at2 .ensures) in
+    sym (ap₂ _⊻_ first second) ∙ sum-of (c .before .meets .result) (c .meets2 .result)
+
+width-requires : tie.Need-width-requires Inv-loop μ-loop
+width-requires c κs = search needs
+
+add-count : tie.Need-add-count Inv-loop μ-loop
+add-count c = omega (arith, qubits-le (c .before .args .a), c .width .ensures)
+
+row-at-requires : tie.Need-row-at-requires Inv-loop μ-loop
+row-at-requires c κs = search needs
+
+add-j : tie.Need-add-j Inv-loop μ-loop
+add-j c = omega (arith, qubits-le (c .before .before .args .a))
+
+loop-holds : tie.Need-loop-holds Inv-loop μ-loop
+loop-holds c =
+    let h = qubits-le (c .before .before .args .a) in
+    let e = c .before .width .ensures in
+    (omega arith, omega arith, refl)
+
+row-at-requires-2 : tie.Need-row-at-requires-2 Inv-loop μ-loop
+row-at-requires-2 c κs = omega (arith, c .before .before .before .width .ensures)
+
+sum-requires : tie.Need-sum-requires Inv-loop μ-loop
+sum-requires c κs = search needs
+
+meets-requires : tie.Need-meets-requires Inv-loop μ-loop
+meets-requires c κs = search needs
+
+meets-requires-2 : tie.Need-meets-requires-2 Inv-loop μ-loop
+meets-requires-2 c κs = search needs
+
+returns : tie.Need-returns Inv-loop μ-loop
+unfolding chosen
+returns c =
+    let t = c .before in
+    let s = t .before .before .before .before .before .before .before .before in
+    let at = t .before .before .before .before .before .loop in
+    ap some (t .before .before .sum .ensures ∙ ap₂ _⊕_ (t .before .before .before .before .before .before .row-at .ensures) (t .before .before .before .row-at2 .ensures))
+    ∙ sym (with-here (qubits (s .args .a)) (matrix (s .args .a)) (size s) (s .args .i) (at .j) (search needs) (below t) (tested t ∙ c .if1 .taken))
+    ∙ at .inv .2
+
+add-j-2 : tie.Need-add-j-2 Inv-loop μ-loop
+add-j-2 c = search needs
+
+loop-less : tie.Need-loop-less Inv-loop μ-loop
+loop-less c = search needs
+
+loop-again : tie.Need-loop-again Inv-loop μ-loop
+loop-again c =
+    let t = c .before in
+    let s = t .before .before .before .before .before .before .before .before in
+    let at = t .before .before .before .before .before .loop in (
+      search needs,
+      search needs,
+      sym (with-skip (qubits (s .args .a)) (matrix (s .args .a)) (size s) (s .args .i) (at .j) (search needs) (below t) (tested t ∙ c .if1 .left)) ∙ at .inv .2,
+    )
+
+nothing-found-requires : tie.Need-nothing-found-requires Inv-loop μ-loop
+nothing-found-requires c κs = search needs
+
+returns-2 : tie.Need-returns-2 Inv-loop μ-loop
+returns-2 c =
+    let s = c .before .before .before .before .before in
+    let at = c .before .before .loop in
+    c .nothing-found .ensures
+    ∙ sym (with-end (qubits (s .args .a)) (matrix (s .args .a)) (size s) (s .args .i) (at .j) (omega (arith, c .before .before .before .before .width .ensures)))
+    ∙ at .inv .2
+
+pub pair-with-spec : {M : Type 1} → statement M
+pair-with-spec =
+    tie.close
+    (tie.spec
+    Inv-loop
+    μ-loop
+    width-requires
+    add-count
+    row-at-requires
+    add-j
+    loop-holds
+    row-at-requires-2
+    sum-requires
+    meets-requires
+    meets-requires-2
+    returns
+    add-j-2
+    loop-less
+    loop-again
+    nothing-found-requires
+    returns-2)
