@@ -1,6 +1,9 @@
--- Every member of a list: from member to member, through maps and through joined lists.
+-- Every member of a list: from member to member, through maps, through joined lists and by an index.
 -- Assumes nothing.
 use mathlib.Core.List.{List, [], _∷_, _++_, map}
+use Prim.Native.Nat.{ℕ, zero, suc, _<_}
+use native.Mathlib.Nat.{le-of-suc-le-suc, not-suc-le-zero}
+use lib.ListN.{length, getD}
 use Rattle.blocks.specs.Matrices.{All}
 
 pub All·map : {A : Type 0} {P Q : A → Type 0} → ((x : A) → P x → Q x) → (xs : List A) → All P xs → All Q xs
@@ -36,3 +39,8 @@ module _ {A : Type 0} (P : A → Type 0) where
   pub All·right : (xs ys : List A) → All P (xs ++ ys) → All P ys
   All·right [] ys h = h
   All·right (x ∷ xs) ys h = All·right xs ys (h .1)
+
+pub All·at : {A : Type 0} (P : A → Type 0) (xs : List A) → All P xs → (i : ℕ) (d : A) → i < length xs → P (getD xs i d)
+All·at P [] a i d l = absurd (not-suc-le-zero l)
+All·at P (x ∷ xs) a zero d l = a .0
+All·at P (x ∷ xs) a (suc i) d l = All·at P xs (a .1) i d (le-of-suc-le-suc l)

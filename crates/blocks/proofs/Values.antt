@@ -18,7 +18,7 @@ use Rattle.binar.proofs.Widths.{val-blank}
 use Rattle.blocks.specs.declared.Block.{Block}
 use Rattle.blocks.specs.Blocks.{room, vals, rowsOf}
 use Rattle.blocks.specs.Matrices.{without, exchanged}
-use Rattle.blocks.specs.Words.{wordsOfRows, laid}
+use Rattle.blocks.specs.Words.{rowsOfWords, wordsOfRows, laid}
 
 -- ---- values
 
@@ -177,3 +177,9 @@ laid-end (r ∷ rows) [] zero e = refl
 laid-end (r ∷ rows) [] (suc k) e = absurd (omega arith)
 laid-end (r ∷ rows) (w ∷ out) zero e = absurd (omega arith)
 laid-end (r ∷ rows) (w ∷ out) (suc k) e = ap (λ (m : List ℕ). r ∷ m) (laid-end rows out k (omega arith))
+
+-- exactly as many words as rows: the words are the rows
+pub laid-whole : (rows out : List ℕ) → length rows ≡ length out → rowsOfWords (laid rows out) ≡ rows
+unfolding rowsOfWords wordsOfRows
+laid-whole rows out e =
+    laid-fits rows out (omega arith) ∙ ap (λ (l : List ℕ). rows ++ l) (drop-of-length-le out {i = length rows} (omega arith)) ∙ append-nil rows

@@ -2,12 +2,12 @@
 -- Assumes nothing.
 use mathlib.Core.Path.{_≡_, sym, ap, _∙_}
 use mathlib.Core.Bool.{Bool, true, false}
-use mathlib.Core.List.{List, _++_, append-nil}
+use mathlib.Core.List.{List}
 use Prim.Native.Nat.{ℕ, suc, _+_, _≤_, _<_}
 use native.Mathlib.Omega.{arith}
-use lib.ListN.{length, drop-of-length-le}
-use Rattle.blocks.specs.Words.{rowsOfWords, wordsOfRows, laid}
-use Rattle.blocks.proofs.Values.{laid-fits}
+use lib.ListN.{length}
+use Rattle.blocks.specs.Words.{rowsOfWords, laid}
+use Rattle.blocks.proofs.Values.{laid-whole}
 use Rattle.symplectic.specs.Turns.{product}
 use Rattle.symplectic.specs.Replies.{Reply, Told, toldOf, refused, listed, ask, fitAll}
 use Rattle.symplectic.proofs.Products.{product-length}
@@ -45,12 +45,6 @@ module _ (n : ℕ) (vs rows : List ℕ) where
       let size = size-known n _ e in
       let count = count-known n _ rows (size .1) in
       (size .0, count .0, ask-passed (fitAll (n + n) vs) 7 0 (count .1) .0)
-
--- exactly as many words as rows: the words are the rows
-pub laid-whole : (rows out : List ℕ) → length rows ≡ length out → rowsOfWords (laid rows out) ≡ rows
-unfolding rowsOfWords wordsOfRows
-laid-whole rows out e =
-    laid-fits rows out (omega arith) ∙ ap (λ (l : List ℕ). rows ++ l) (drop-of-length-le out {i = length rows} (omega arith)) ∙ append-nil rows
 
 -- ---- the reply
 

@@ -11,7 +11,7 @@ use lib.Dec.{eqb, eqb·zero-suc, eqb·suc-zero, eqb·suc-suc}
 use lib.ListN.{length, getD}
 use Rattle.binar.specs.Bits.{_⊻_}
 use Rattle.blocks.specs.Matrices.{All}
-use Rattle.blocks.proofs.All.{All·map, All·map₂, All·any, All·to-map, All·append}
+use Rattle.blocks.proofs.All.{All·map, All·map₂, All·any, All·to-map, All·append, All·at}
 use Rattle.linear.specs.Space.{Space, scale}
 use Rattle.linear.specs.Maps.{Additive}
 use Rattle.linear.proofs.Sums.{add-zero, scale-o}
@@ -113,11 +113,6 @@ module _ (S : Space) (has : ℕ → S .Car → Bool) (has-add : (c : ℕ) → Ad
       (s .0, s .1, All·map (λ p l. omega arith) (s .0) (s .2))
 
 -- ---- an echelon list by its indices
-
-pub All·at : {A : Type 0} (P : A → Type 0) (xs : List A) → All P xs → (i : ℕ) (d : A) → i < length xs → P (getD xs i d)
-All·at P [] a i d l = absurd (not-suc-le-zero l)
-All·at P (x ∷ xs) a zero d l = a .0
-All·at P (x ∷ xs) a (suc i) d l = All·at P xs (a .1) i d (le-of-suc-le-suc l)
 
 module _ {A : Type 0} (has : ℕ → A → Bool) where
   pub rref-length : (ps : List ℕ) (us : List A) → Rref has ps us → length ps ≡ length us

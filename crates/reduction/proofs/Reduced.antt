@@ -13,7 +13,7 @@ use Rattle.binar.specs.Bits.{_⊻_, digit, odd, bit, _⊕_}
 use Rattle.binar.proofs.Digits.{low-digit, bit-suc}
 use Rattle.binar.proofs.Sums.{bit-sum, bit-zero-is-odd, same-bits, bit-of-zero}
 use Rattle.blocks.specs.Matrices.{times, All, units}
-use Rattle.blocks.proofs.All.{All·map, All·map₂, All·append, All·left, All·right}
+use Rattle.blocks.proofs.All.{All·map, All·map₂, All·append, All·left, All·right, All·at}
 use Rattle.blocks.proofs.Units.{units-length}
 use Rattle.linear.specs.Space.{scale}
 use Rattle.linear.specs.Span.{InSpan, Indep}
@@ -25,7 +25,7 @@ use Rattle.linear.proofs.Rows.{times-in, units-span, span-lt}
 use Rattle.symplectic.proofs.Lists.{All·each}
 use Rattle.reduction.specs.Columns.{reduced, rank, pivots}
 use Rattle.reduction.proofs.Columns.{rows, keeps-columns, closed-columns, length-columns}
-use Rattle.reduction.proofs.Echelon.{Below, Rref, Pivots, below-columns, columns-rref, All·at, rref-length, tail-zero}
+use Rattle.reduction.proofs.Echelon.{Below, Rref, Pivots, below-columns, columns-rref, rref-length, tail-zero}
 use Rattle.reduction.proofs.Unique.{rref-indep, unique}
 
 -- ---- the first one of a row
