@@ -3,3 +3,4 @@ pub mod Sums
 pub mod Dots
 pub mod Ones
 pub mod Widths
+pub mod Counting

@@ -72,7 +72,7 @@ lowest-one x p h = trailing width x p h
 
 -- ---- a one taken out
 
-bit-one : (k a : ℕ) → bit k a ≡ true → a / 2 ^ k % 2 ≡ 1
+pub bit-one : (k a : ℕ) → bit k a ≡ true → a / 2 ^ k % 2 ≡ 1
 unfolding bit
 bit-one k a e = odd-one (a / 2 ^ k) e
 

@@ -1,11 +1,11 @@
--- What a row is worth: the blank one, and what shifts and cuts at or past the width leave of a value below it.
+-- What a row is worth: the blank one, what shifts and cuts at or past the width leave of a value below it, and ones past the width.
 -- Assumes nothing.
 use mathlib.Core.Path.{_≡_, refl, sym, ap, _∙_}
 use mathlib.Core.Bool.{true, false}
 use Prim.Native.Nat.{ℕ, _+_, _-_, _*_, _/_, _%_, _^_, _≤_, _<_}
 use native.Mathlib.Nat.{mod-eq-of-lt, div-eq-of-lt, mul-mod-left, mul-assoc, one-mul}
 use native.Mathlib.Omega.{arith}
-use lib.Pow.{pow-mono, pow-add}
+use lib.Pow.{pow-mono, pow-add, low, ones-lt, ones-split}
 use lib.Dec.{ltb}
 use borrow.Author.Tests.{lt-ltb}
 use Rattle.binar.specs.Bits.{odd, bit}
@@ -41,3 +41,8 @@ past-up a k past =
 pub unit-past : (k : ℕ) → 64 ≤ k → unit k ≡ 0
 unfolding unit width
 unit-past k past = ap (λ t. t % 2 ^ 64) (sym (one-mul (2 ^ k))) ∙ past-up 1 k past
+
+pub past-ones : (k : ℕ) → 64 ≤ k → (2 ^ k - 1) % 2 ^ 64 ≡ 2 ^ 64 - 1
+past-ones k past =
+    let e : k - 64 + 64 ≡ k = omega arith in
+    ap (λ t. (2 ^ t - 1) % 2 ^ 64) (sym e) ∙ ap (λ t. t % 2 ^ 64) (ones-split (k - 64) 64) ∙ low (2 ^ (k - 64) - 1) 64 (ones-lt 64)

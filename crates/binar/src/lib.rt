@@ -1,6 +1,6 @@
 // Rows of bits: one word each, known above by their value alone.
 ghost use mathlib.Core.Path.{_≡_};
-ghost use Prim.Native.Nat.{_*_, _/_, _%_, _^_, _<_};
+ghost use Prim.Native.Nat.{_+_, _-_, _/_, _%_, _^_, _<_};
 ghost use lib.Dec.{eqb, ltb};
 ghost use Rattle.binar.specs.Bits.{_⊕_, bit as bitOf, dot as dotOf};
 ghost use Rattle.binar.specs.Rows.{val, width, unit as unitOf, lowest as lowestOf};
@@ -126,14 +126,22 @@ pub fn shift_down(a: Row, k: usize) -> Row
     }
 }
 
-// Each column k higher; what passes the width is lost.
-pub fn shift_up(a: Row, k: usize) -> Row
-    ensures { λ r. ⌜ val r ≡ val a * 2 ^ k % 2 ^ width ⌝ }
+// The row that follows in the order of values; the last one is followed by zero.
+pub fn next(a: Row) -> Row
+    ensures { λ r. ⌜ val r ≡ (val a + 1) % 2 ^ width ⌝ }
 {
-    let w = a.word;
+    Row {
+        word: std::num::wrapping_add_u64(a.word, 1),
+    }
+}
+
+// Ones in the columns below k.
+pub fn low_ones(k: usize) -> Row
+    ensures { λ r. ⌜ val r ≡ (2 ^ k - 1) % 2 ^ width ⌝ }
+{
     if k < 64 {
-        Row { word: w << k }
+        Row { word: power(k) - 1 }
     } else {
-        Row { word: 0 }
+        Row { word: u64::MAX }
     }
 }

@@ -1,13 +1,14 @@
 -- The test for an alternating form: by indices, as a loop takes it, and what it says of the span.
 -- Assumes nothing.
-use mathlib.Core.Path.{_≡_, refl, sym, ap, ap₂, _∙_}
+use mathlib.Core.Path.{_≡_, refl, sym, ap, ap₂, _∙_, subst}
 use mathlib.Core.Bool.{Bool, true, false, true≢false, false≢true, _&&_, not, Bool·beq, and-eq-true-iff}
 use mathlib.Core.List.{List, [], _∷_, _++_}
-use Prim.Native.Nat.{ℕ, zero, suc, _+_, _<_, suc-le-suc}
+use Prim.Native.Nat.{ℕ, zero, suc, _+_, _≤_, _<_, suc-le-suc}
 use native.Mathlib.Nat.{not-suc-le-zero, le-of-suc-le-suc, zero-lt-suc}
 use native.Mathlib.Numerals.{add-one}
 use lib.ListN.{length, take, getD}
-use lib.Seq.{take-suc}
+use lib.Seq.{take-suc, getD-take, length-take-le}
+use native.Mathlib.Omega.{arith}
 use borrow.Author.Tests.{not-true}
 use Rattle.binar.specs.Bits.{_⊻_, select, _⊕_}
 use Rattle.binar.proofs.Sums.{bxor-assoc, bxor-comm, bxor-self}
@@ -27,6 +28,9 @@ beq-of-same true true e = refl
 beq-of-same true false e = absurd (true≢false e)
 beq-of-same false true e = absurd (false≢true e)
 beq-of-same false false e = refl
+
+pub beq-differ : (a b : Bool) → Bool·beq a b ≡ false → a ≡ b → ⊥
+beq-differ a b e q = true≢false (sym (beq-of-same a b q) ∙ e)
 
 module _ (E : ℕ → ℕ → Bool) where
   symmetric-parts : (b y : ℕ) (ys : List ℕ) → symmetricWith E b (y ∷ ys) ≡ true → (E b y ≡ E y b) × (symmetricWith E b ys ≡ true)
@@ -69,20 +73,39 @@ module _ (E : ℕ → ℕ → Bool) where
   alternating-pair (b ∷ bs) (suc i) (suc j) e h k =
       alternating-pair bs i j (alternating-parts b bs e .2) (le-of-suc-le-suc h) (le-of-suc-le-suc k)
 
+  symmetric-all : (b : ℕ) (ys : List ℕ) → ((j : ℕ) → j < length ys → E b (getD ys j 0) ≡ E (getD ys j 0) b) → symmetricWith E b ys ≡ true
+  unfolding symmetricWith
+  symmetric-all b [] h = refl
+  symmetric-all b (y ∷ ys) h =
+      symmetric-cons b y ys (h zero (zero-lt-suc (length ys))) (symmetric-all b ys (λ j l. h (suc j) (suc-le-suc l)))
+
   -- one failure
-  refuted : (bs : List ℕ) → (isAlternating E bs ≡ true → ⊥) → isAlternating E bs ≡ false
-  refuted bs never = go (isAlternating E bs) never
-    where
-      go : (b : Bool) → (b ≡ true → ⊥) → b ≡ false
-      go true n = absurd (n refl)
-      go false n = refl
+  refuted : (b : Bool) → (b ≡ true → ⊥) → b ≡ false
+  refuted true n = absurd (n refl)
+  refuted false n = refl
 
   pub fails-diagonal : (bs : List ℕ) (i : ℕ) → i < length bs → E (getD bs i 0) (getD bs i 0) ≡ true → isAlternating E bs ≡ false
-  fails-diagonal bs i h e = refuted bs (λ a. true≢false (sym e ∙ alternating-diagonal bs i a h))
+  fails-diagonal bs i h e = refuted (isAlternating E bs) (λ a. true≢false (sym e ∙ alternating-diagonal bs i a h))
 
-  pub fails-pair : (bs : List ℕ) (i j : ℕ) → i < length bs → j < length bs
-      → (E (getD bs i 0) (getD bs j 0) ≡ E (getD bs j 0) (getD bs i 0) → ⊥) → isAlternating E bs ≡ false
-  fails-pair bs i j h k differ = refuted bs (λ a. differ (alternating-pair bs i j a h k))
+  pub fails-symmetric : (b : ℕ) (bs : List ℕ) (i j : ℕ) → j < i → i ≤ length bs
+      → (E b (getD bs j 0) ≡ E (getD bs j 0) b → ⊥) → symmetricWith E b (take i bs) ≡ false
+  fails-symmetric b bs i j h k differ =
+      let e : getD (take i bs) j 0 ≡ getD bs j 0 = getD-take i bs j 0 h in
+      refuted (symmetricWith E b (take i bs))
+      (λ a. differ (subst (λ y. E b y ≡ E y b) e (symmetric-at b (take i bs) j a (subst (λ n. j < n) (sym (length-take-le i bs k)) h))))
+
+  -- member i fails with those before it
+  pub fails-with : (bs : List ℕ) (i : ℕ) → i < length bs → symmetricWith E (getD bs i 0) (take i bs) ≡ false → isAlternating E bs ≡ false
+  fails-with bs i h e =
+      refuted (isAlternating E bs)
+      (λ a. true≢false (sym (symmetric-all (getD bs i 0) (take i bs) (λ j l. pair a j (subst (λ n. j < n) size l))) ∙ e))
+    where
+      size : length (take i bs) ≡ i
+      size = length-take-le i bs (omega arith)
+
+      pair : isAlternating E bs ≡ true → (j : ℕ) → j < i → E (getD bs i 0) (getD (take i bs) j 0) ≡ E (getD (take i bs) j 0) (getD bs i 0)
+      pair a j l =
+          subst (λ y. E (getD bs i 0) y ≡ E y (getD bs i 0)) (sym (getD-take i bs j 0 l)) (alternating-pair bs i j a h (omega arith))
 
   -- none: the members before i have passed, and member i with those before j
   symmetric-snoc : (b : ℕ) (ys : List ℕ) (y : ℕ) → symmetricWith E b ys ≡ true → E b y ≡ E y b → symmetricWith E b (ys ++ (y ∷ [])) ≡ true
@@ -115,19 +138,6 @@ module _ (E : ℕ → ℕ → Bool) where
       → E (getD bs i 0) (getD bs i 0) ≡ false → symmetricWith E (getD bs i 0) (take i bs) ≡ true → isAlternating E (take (i + 1) bs) ≡ true
   alternating-next bs i a h e s =
       ap (isAlternating E) (ap (λ n. take n bs) (add-one i) ∙ take-suc bs i 0 h) ∙ alternating-snoc (take i bs) (getD bs i 0) a e s
-
-  -- all of them, each with those behind it
-  symmetric-all : (b : ℕ) (ys : List ℕ) → ((j : ℕ) → j < length ys → E b (getD ys j 0) ≡ E (getD ys j 0) b) → symmetricWith E b ys ≡ true
-  symmetric-all b [] h = symmetric-start b []
-  symmetric-all b (y ∷ ys) h =
-      symmetric-cons b y ys (h zero (zero-lt-suc (length ys))) (symmetric-all b ys (λ j l. h (suc j) (suc-le-suc l)))
-
-  pub alternating-all : (bs : List ℕ) → ((i : ℕ) → i < length bs → E (getD bs i 0) (getD bs i 0) ≡ false)
-      → ((i j : ℕ) → i < j → j < length bs → E (getD bs i 0) (getD bs j 0) ≡ E (getD bs j 0) (getD bs i 0)) → isAlternating E bs ≡ true
-  alternating-all [] d h = alternating-start []
-  alternating-all (b ∷ bs) d h =
-      alternating-cons b bs (d zero (zero-lt-suc (length bs))) (symmetric-all b bs (λ j l. h zero (suc j) (zero-lt-suc j) (suc-le-suc l)))
-      (alternating-all bs (λ i l. d (suc i) (suc-le-suc l)) (λ i j k l. h (suc i) (suc j) (suc-le-suc k) (suc-le-suc l)))
 
 -- ---- on the span
 

@@ -1,62 +1,36 @@
--- The search under a budget, as two functions that call each other take it: one tries a space, draw by draw, the other one draw; the vectors chosen so far stand before what is found.
+-- The search under a budget, as two functions that call each other take it: one tries a space, draw by draw, the other what one draw passes on; what is found is built on the way back.
 -- Assumes nothing.
 use mathlib.Core.Path.{_≡_, refl, sym, ap, ap₂, _∙_, subst}
 use mathlib.Core.Bool.{Bool, true, false}
-use mathlib.Core.List.{List, [], _∷_, _++_, append-assoc, append-nil}
+use mathlib.Core.List.{List, [], _∷_, _++_, reverse, reverse-append}
 use Prim.Native.Nat.{ℕ, zero, suc, _+_, _-_, _^_, _≤_, _<_}
-use native.Mathlib.Nat.{le-refl, le-trans, not-suc-le-zero, lt-of-lt-of-le}
+use native.Mathlib.Nat.{le-refl, not-suc-le-zero, lt-of-lt-of-le}
 use native.Mathlib.Numerals.{add-one, sub-one}
 use native.Mathlib.Omega.{arith}
 use borrow.Author.Tests.{lt-leb, le-leb, leb-true, leb-false}
 use lib.Dec.{leb}
+use lib.ListN.{length, length-reverse, take}
+use Rattle.blocks.specs.Blocks.{room}
 use Rattle.blocks.specs.Matrices.{times}
+use Rattle.blocks.proofs.Values.{push-fits}
+use Rattle.linear.specs.Maps.{Form}
+use Rattle.linear.proofs.Instances.{𝕎}
+use Rattle.triangular.specs.declared.Ending.{Ending}
+use Rattle.triangular.specs.declared.Ending.the-variants.{Found, Failed, Spent}
 use Rattle.triangular.specs.Spaces.{complement, isAlternating}
 use Rattle.triangular.specs.Search.{Outcome, found, failed, unlessAlternating, afterRest, draw, draws, search, looksOf, Verdict, ended, spent, endedIf, budgeted}
-use Rattle.triangular.proofs.Looks.{Up, after-up, draws-up, search-up}
-
--- what is found, behind the vectors chosen so far
-unfoldable pub prefixed : List ℕ → Outcome → Outcome
-prefixed chosen (found ps looks) = found (chosen ++ ps) looks
-prefixed chosen (failed looks) = failed looks
-
-abbrev pub ifTaken : Bool → ℕ → (ℕ → Outcome) → ℕ → Outcome
-ifTaken true p rest looks = afterRest p failed (rest looks)
-ifTaken false p rest looks = failed looks
-
--- the draw c alone, which these looks count already
-unfoldable pub oneDraw : (ℕ → ℕ → Bool) → (List ℕ → ℕ → Outcome) → List ℕ → ℕ → ℕ → Outcome
-oneDraw E sub bs c looks = let p = times c bs in ifTaken (E p p) p (sub (complement (E p) bs)) looks
-
--- an outcome, and where it failed what comes next
-abbrev pub orNext : (ℕ → Outcome) → Outcome → Outcome
-orNext next (found ps looks) = found ps looks
-orNext next (failed looks) = next looks
-
--- ---- the vectors chosen
-
-pub prefixed-none : (out : Outcome) → prefixed [] out ≡ out
-unfolding prefixed
-prefixed-none (found ps n) = refl
-prefixed-none (failed n) = refl
-
-prefixed-one : (chosen : List ℕ) (p : ℕ) (out : Outcome) → prefixed (chosen ++ (p ∷ [])) out ≡ prefixed chosen (afterRest p failed out)
-unfolding prefixed
-prefixed-one chosen p (found ps n) = ap (λ l. found l n) (append-assoc chosen (p ∷ []) ps)
-prefixed-one chosen p (failed n) = refl
-
-pub prefixed-looks : (chosen : List ℕ) (out : Outcome) → looksOf (prefixed chosen out) ≡ looksOf out
-unfolding prefixed
-prefixed-looks chosen (found ps n) = refl
-prefixed-looks chosen (failed n) = refl
+use Rattle.triangular.specs.Readings.{verdictOf}
+use Rattle.triangular.proofs.Complete.{Right, search-right}
+use Rattle.triangular.proofs.Looks.{Up, after-up, draw-up, draws-up, search-up}
 
 -- ---- the verdict
 
 module _ (budget : ℕ) where
-  pub ends : (out : Outcome) → looksOf out ≤ budget → budgeted budget out ≡ ended out
+  ends : (out : Outcome) → looksOf out ≤ budget → budgeted budget out ≡ ended out
   unfolding budgeted
   ends out h = ap (λ b. endedIf b out budget) (le-leb (looksOf out) budget h)
 
-  pub spends : (out : Outcome) → budget < looksOf out → budgeted budget out ≡ spent budget
+  spends : (out : Outcome) → budget < looksOf out → budgeted budget out ≡ spent budget
   unfolding budgeted
   spends out h = ap (λ b. endedIf b out budget) (lt-leb (looksOf out) budget h)
 
@@ -76,59 +50,72 @@ module _ (budget : ℕ) where
       go true q e = let z : _≡_ {A = ℕ} 0 1 = cc in absurd (omega arith)
       go false q e = (cc, leb-false (looksOf out) budget q)
 
-  module _ (chosen : List ℕ) where
-    spends-prefixed : (out : Outcome) → budget < looksOf out → budgeted budget (prefixed chosen out) ≡ spent budget
-    spends-prefixed out h = spends (prefixed chosen out) (subst (λ n. budget < n) (sym (prefixed-looks chosen out)) h)
+-- what the code says of its ending
+module _ (v : Ending) (k : ℕ) (l : List ℕ) where
+  pub says-found : v ≡ Found → verdictOf v k l ≡ ended (found l k)
+  unfolding verdictOf
+  says-found e = ap (λ x. verdictOf x k l) e
 
-    pub ends-failed : (looks : ℕ) → looks ≤ budget → budgeted budget (prefixed chosen (failed looks)) ≡ ended (failed looks)
-    unfolding prefixed
-    ends-failed looks h = ends (failed looks) h
+  pub says-failed : v ≡ Failed → verdictOf v k l ≡ ended (failed k)
+  unfolding verdictOf
+  says-failed e = ap (λ x. verdictOf x k l) e
 
-    -- what a first outcome came to: found, spent, or failed
-    module _ (next : ℕ → Outcome) where
-      or-found : (out : Outcome) (l : List ℕ) (k : ℕ) → ended (found l k) ≡ budgeted budget (prefixed chosen out)
-          → ended (found l k) ≡ budgeted budget (prefixed chosen (orNext next out))
-      unfolding prefixed
-      or-found (found ps n) l k e = e
-      or-found (failed n) l k e = let f = of-ended (failed n) (found l k) e .0 in let z : _≡_ {A = ℕ} 0 1 = cc in absurd (omega arith)
+  pub says-spent : v ≡ Spent → verdictOf v k l ≡ spent k
+  unfolding verdictOf
+  says-spent e = ap (λ x. verdictOf x k l) e
 
-      or-spent : Up next → (out : Outcome) (k : ℕ) → spent k ≡ budgeted budget (prefixed chosen out)
-          → spent k ≡ budgeted budget (prefixed chosen (orNext next out))
-      unfolding prefixed
-      or-spent u (found ps n) k e = e
-      or-spent u (failed n) k e =
-          let f = of-spent (failed n) k e in ap spent (f .0) ∙ sym (spends-prefixed (next n) (lt-of-lt-of-le (f .1) (u n)))
+-- an outcome, and where it failed what comes next
+abbrev orNext : (ℕ → Outcome) → Outcome → Outcome
+orNext next (found ps looks) = found ps looks
+orNext next (failed looks) = next looks
 
-      or-failed : (out : Outcome) (k : ℕ) → ended (failed k) ≡ budgeted budget (prefixed chosen out)
-          → (k ≤ budget) × (budgeted budget (prefixed chosen (next k)) ≡ budgeted budget (prefixed chosen (orNext next out)))
-      unfolding prefixed
-      or-failed (found ps n) k e =
-          let f = of-ended (found (chosen ++ ps) n) (failed k) e .0 in let z : _≡_ {A = ℕ} 0 1 = cc in absurd (omega arith)
-      or-failed (failed n) k e =
-          let f = of-ended (failed n) (failed k) e in
-          let g : k ≡ n = ap looksOf (f .0) in
-          (subst (λ m. m ≤ budget) (sym g) (f .1), ap (λ m. budgeted budget (prefixed chosen (next m))) g)
+module _ (budget : ℕ) (next : ℕ → Outcome) (out : Outcome) where
+  or-found : (l : List ℕ) (k : ℕ) → ended (found l k) ≡ budgeted budget out → ended (found l k) ≡ budgeted budget (orNext next out)
+  or-found l k e = let f = of-ended budget out (found l k) e in e ∙ ap (budgeted budget) (sym (f .0) ∙ ap (orNext next) (f .0))
 
--- ---- one draw
+  or-failed : (k : ℕ) → ended (failed k) ≡ budgeted budget out → budgeted budget (next k) ≡ budgeted budget (orNext next out)
+  or-failed k e = ap (λ o. budgeted budget (orNext next o)) (of-ended budget out (failed k) e .0)
 
-module _ (E : ℕ → ℕ → Bool) (budget looks : ℕ) (chosen bs : List ℕ) (c p d : ℕ) (is : p ≡ times c bs) where
-  -- accepted: the rest is searched, with p chosen
-  pub draw-taken : (chosen′ rest : List ℕ) (d′ : ℕ) → E p p ≡ true → chosen′ ≡ chosen ++ (p ∷ []) → rest ≡ complement (E p) bs → d′ ≡ d
-      → budgeted budget (prefixed chosen′ (search E d′ rest looks)) ≡ budgeted budget (prefixed chosen (oneDraw E (search E d) bs c looks))
-  unfolding oneDraw
-  draw-taken chosen′ rest d′ a e f g =
-      ap₂ (λ x o. budgeted budget (prefixed x o)) e (ap₂ (λ n r. search E n r looks) g f)
-      ∙ ap (budgeted budget) (prefixed-one chosen p (search E d (complement (E p) bs) looks)
-      ∙ ap (λ b. prefixed chosen (ifTaken b p (search E d (complement (E p) bs)) looks)) (sym a)
-      ∙ ap (λ q. prefixed chosen (ifTaken (E q q) q (search E d (complement (E q) bs)) looks)) is)
+  or-spent : Up next → (k : ℕ) → spent k ≡ budgeted budget out → spent k ≡ budgeted budget (orNext next out)
+  or-spent u k e = let f = of-spent budget out k e in ap spent (f .0) ∙ sym (spends budget (orNext next out) (lt-of-lt-of-le (f .1) (grows out)))
+    where
+      grows : (o : Outcome) → looksOf o ≤ looksOf (orNext next o)
+      grows (found ps n) = le-refl n
+      grows (failed n) = u n
 
-  -- not accepted
-  pub draw-left : E p p ≡ false → looks ≤ budget → ended (failed looks) ≡ budgeted budget (prefixed chosen (oneDraw E (search E d) bs c looks))
-  unfolding oneDraw
-  draw-left a h =
-      sym (ends-failed budget chosen looks h)
-      ∙ ap (λ b. budgeted budget (prefixed chosen (ifTaken b p (search E d (complement (E p) bs)) looks))) (sym a)
-      ∙ ap (λ q. budgeted budget (prefixed chosen (ifTaken (E q q) q (search E d (complement (E q) bs)) looks))) is
+-- ---- one draw: what the search of the rest came to, and p before it
+
+module _ (budget p : ℕ) (out : Outcome) where
+  rest-found : (l : List ℕ) (k : ℕ) → ended (found l k) ≡ budgeted budget out → ended (found (p ∷ l) k) ≡ budgeted budget (afterRest p failed out)
+  rest-found l k e =
+      let f = of-ended budget out (found l k) e in
+      sym (ends budget (found (p ∷ l) k) (subst (λ o. looksOf o ≤ budget) (sym (f .0)) (f .1))) ∙ ap (λ o. budgeted budget (afterRest p failed o)) (f .0)
+
+  module _ (v : Ending) (k : ℕ) (l : List ℕ) (ens : verdictOf v k l ≡ budgeted budget out) where
+    pub rest-failed : v ≡ Failed → verdictOf v k l ≡ budgeted budget (afterRest p failed out)
+    rest-failed is =
+        let f = of-ended budget out (failed k) (sym (says-failed v k l is) ∙ ens) in ens ∙ ap (budgeted budget) (sym (f .0) ∙ ap (afterRest p failed) (f .0))
+
+    pub rest-spent : v ≡ Spent → verdictOf v k l ≡ budgeted budget (afterRest p failed out)
+    rest-spent is =
+        let e = says-spent v k l is in
+        let f = of-spent budget out k (sym e ∙ ens) in
+        e ∙ ap spent (f .0) ∙ sym (spends budget (afterRest p failed out) (lt-of-lt-of-le (f .1) (after-up p failed le-refl out)))
+
+-- what was found fits a block with p behind it
+module _ (E : Form 𝕎) (budget looks p d : ℕ) (bs : List ℕ) (size : length bs ≡ d) (fits : d < 65) where
+  pub rest-pushed : (v : Ending) (k : ℕ) (l m : List ℕ) → verdictOf v k (reverse l) ≡ budgeted budget (search (E .at) d bs looks) → v ≡ Found
+      → m ≡ take room (l ++ (p ∷ [])) → verdictOf Found k (reverse m) ≡ budgeted budget (afterRest p failed (search (E .at) d bs looks))
+  rest-pushed v k l m ens is new =
+      says-found Found k (reverse m) refl
+      ∙ ap (λ x. ended (found x k)) (ap reverse (new ∙ push-fits l p (omega (arith, length-reverse l, all))) ∙ reverse-append l (p ∷ []))
+      ∙ rest-found budget p (search (E .at) d bs looks) (reverse l) k e
+    where
+      e : ended (found (reverse l) k) ≡ budgeted budget (search (E .at) d bs looks)
+      e = sym (says-found v k (reverse l) is) ∙ ens
+
+      all : length (reverse l) ≡ d
+      all = subst (Right E d bs) (sym (of-ended budget (search (E .at) d bs looks) (found (reverse l) k) e .0)) (search-right E d bs looks size) .2
 
 -- ---- a space
 
@@ -139,92 +126,96 @@ space-step E bs looks zero h = absurd (not-suc-le-zero h)
 space-step E bs looks (suc d) h =
     ap (λ k. unlessAlternating (isAlternating E bs) (draws E (search E k) bs (2 ^ suc d - 1) 1) looks) (sym (sub-one (suc d)))
 
-module _ (E : ℕ → ℕ → Bool) (budget looks : ℕ) (chosen bs : List ℕ) (d : ℕ) where
-  pub space-empty : d ≡ 0 → looks ≤ budget → ended (found chosen looks) ≡ budgeted budget (prefixed chosen (search E d bs looks))
-  unfolding search prefixed
-  space-empty e h =
-      sym (ends budget (found chosen looks) h) ∙ ap (λ l. budgeted budget (found l looks)) (sym (append-nil chosen))
-      ∙ ap (λ n. budgeted budget (prefixed chosen (search E n bs looks))) (sym e)
+module _ (E : ℕ → ℕ → Bool) (budget looks : ℕ) (bs : List ℕ) (d : ℕ) where
+  pub space-empty : d ≡ 0 → looks ≤ budget → ended (found [] looks) ≡ budgeted budget (search E d bs looks)
+  unfolding search
+  space-empty e h = sym (ends budget (found [] looks) h) ∙ ap (λ n. budgeted budget (search E n bs looks)) (sym e)
 
-  pub space-alternating : 0 < d → isAlternating E bs ≡ true → looks ≤ budget → ended (failed looks) ≡ budgeted budget (prefixed chosen (search E d bs looks))
+  pub space-alternating : 0 < d → isAlternating E bs ≡ true → looks ≤ budget → ended (failed looks) ≡ budgeted budget (search E d bs looks)
   space-alternating p a h =
-      sym (ends-failed budget chosen looks h)
-      ∙ ap (λ b. budgeted budget (prefixed chosen (unlessAlternating b (draws E (search E (d - 1)) bs (2 ^ d - 1) 1) looks))) (sym a)
-      ∙ ap (λ o. budgeted budget (prefixed chosen o)) (sym (space-step E bs looks d p))
+      sym (ends budget (failed looks) h)
+      ∙ ap (λ b. budgeted budget (unlessAlternating b (draws E (search E (d - 1)) bs (2 ^ d - 1) 1) looks)) (sym a)
+      ∙ ap (budgeted budget) (sym (space-step E bs looks d p))
 
   -- the loop begins
-  pub space-begun : (last : ℕ) → last ≡ 2 ^ d - 1 → 0 < d → isAlternating E bs ≡ false
-      → budgeted budget (prefixed chosen (draws E (search E (d - 1)) bs (last - 0) (0 + 1) looks)) ≡ budgeted budget (prefixed chosen (search E d bs looks))
-  space-begun last e p a =
-      let f : last - 0 ≡ 2 ^ d - 1 = omega arith in
-      ap (λ o. budgeted budget (prefixed chosen o)) (
-      ap (λ n. draws E (search E (d - 1)) bs n 1 looks) f
+  pub space-begun : (last c : ℕ) → last ≡ 2 ^ d - 1 → c ≡ 0 → 0 < d → isAlternating E bs ≡ false
+      → budgeted budget (draws E (search E (d - 1)) bs (last - c) (c + 1) looks) ≡ budgeted budget (search E d bs looks)
+  space-begun last c e z p a =
+      let f : last - c ≡ 2 ^ d - 1 = omega arith in
+      let g : c + 1 ≡ 1 = omega arith in
+      ap (budgeted budget) (
+      ap₂ (λ n x. draws E (search E (d - 1)) bs n x looks) f g
       ∙ ap (λ b. unlessAlternating b (draws E (search E (d - 1)) bs (2 ^ d - 1) 1) looks) (sym a) ∙ sym (space-step E bs looks d p)
       )
 
 -- ---- its draws: c of them are behind the loop, and A is the verdict to be given
 
-draw-is : (b : Bool) (p : ℕ) (rest next : ℕ → Outcome) (looks : ℕ) → draw b p rest next looks ≡ orNext next (ifTaken b p rest (suc looks))
-draw-is true p rest next looks = go (rest (suc looks))
-  where
-    go : (out : Outcome) → afterRest p next out ≡ orNext next (afterRest p failed out)
-    go (found ps n) = refl
-    go (failed n) = refl
-draw-is false p rest next looks = refl
+taken-is : (p : ℕ) (next : ℕ → Outcome) (out : Outcome) → afterRest p next out ≡ orNext next (afterRest p failed out)
+taken-is p next (found ps n) = refl
+taken-is p next (failed n) = refl
 
-draws-step : (E : ℕ → ℕ → Bool) (sub : List ℕ → ℕ → Outcome) (bs : List ℕ) (last c looks : ℕ) → c < last
-    → draws E sub bs (last - c) (c + 1) looks ≡ orNext (draws E sub bs (last - (c + 1)) (c + 1 + 1)) (oneDraw E sub bs (c + 1) (looks + 1))
-unfolding draws oneDraw
-draws-step E sub bs last c looks h =
-    let e : last - c ≡ suc (last - (c + 1)) = omega arith in
-    let p = times (c + 1) bs in
-    let rest = complement (E p) bs in
-    ap (λ n. draws E sub bs n (c + 1) looks) e ∙ draw-is (E p p) p (sub rest) (draws E sub bs (last - (c + 1)) (suc (c + 1))) looks
-    ∙ ap₂ (λ m n. orNext (draws E sub bs (last - (c + 1)) m) (ifTaken (E p p) p (sub rest) n)) (sym (add-one (c + 1))) (sym (add-one looks))
-
-pub one-up : (E : ℕ → ℕ → Bool) (sub : List ℕ → ℕ → Outcome) → ((bs : List ℕ) → Up (sub bs)) → (bs : List ℕ) (c : ℕ) → Up (oneDraw E sub bs c)
-unfolding oneDraw
-one-up E sub u bs c looks = let p = times c bs in go (E p p) p (complement (E p) bs)
-  where
-    go : (b : Bool) (p : ℕ) (rest : List ℕ) → looks ≤ looksOf (ifTaken b p (sub rest) looks)
-    go true p rest = le-trans (u rest looks) (after-up p failed le-refl (sub rest looks))
-    go false p rest = le-refl looks
-
-module _ (E : ℕ → ℕ → Bool) (budget looks : ℕ) (chosen bs : List ℕ) (d last c : ℕ) (A : Verdict)
-    (inv : budgeted budget (prefixed chosen (draws E (search E d) bs (last - c) (c + 1) looks)) ≡ A) where
+module _ (E : ℕ → ℕ → Bool) (budget looks : ℕ) (bs : List ℕ) (d last c : ℕ) (A : Verdict)
+    (inv : budgeted budget (draws E (search E d) bs (last - c) (c + 1) looks) ≡ A) where
   -- no draw is left
   pub at-end : last ≤ c → looks ≤ budget → ended (failed looks) ≡ A
   unfolding draws
   at-end h k =
       let e : last - c ≡ 0 = omega arith in
-      sym (ends-failed budget chosen looks k) ∙ ap (λ n. budgeted budget (prefixed chosen (draws E (search E d) bs n (c + 1) looks))) (sym e) ∙ inv
+      sym (ends budget (failed looks) k) ∙ ap (λ n. budgeted budget (draws E (search E d) bs n (c + 1) looks)) (sym e) ∙ inv
 
   module _ (h : c < last) where
     abbrev next : ℕ → Outcome
     next = draws E (search E d) bs (last - (c + 1)) (c + 1 + 1)
 
-    abbrev one : Outcome
-    one = oneDraw E (search E d) bs (c + 1) (looks + 1)
+    next-up : Up next
+    next-up = draws-up E (search E d) (search-up E d) bs (last - (c + 1)) (c + 1 + 1)
 
-    step : budgeted budget (prefixed chosen (orNext next one)) ≡ A
-    step = ap (λ o. budgeted budget (prefixed chosen o)) (sym (draws-step E (search E d) bs last c looks h)) ∙ inv
+    abbrev one : ℕ → Outcome
+    one p = draw (E p p) p (search E d (complement (E p) bs)) next looks
 
-    -- what the draw came to: found
-    pub at-found : (l : List ℕ) (k : ℕ) → ended (found l k) ≡ budgeted budget (prefixed chosen (oneDraw E (search E d) bs (c + 1) (looks + 1)))
-        → ended (found l k) ≡ A
-    at-found l k e = or-found budget chosen next one l k e ∙ step
-
-    -- the budget ran out in it
-    pub at-spent : (k : ℕ) → spent k ≡ budgeted budget (prefixed chosen (oneDraw E (search E d) bs (c + 1) (looks + 1))) → spent k ≡ A
-    at-spent k e = or-spent budget chosen next (draws-up E (search E d) (search-up E d) bs (last - (c + 1)) (c + 1 + 1)) one k e ∙ step
-
-    -- failed: the other draws follow, from its looks on
-    pub at-miss : (k : ℕ) → ended (failed k) ≡ budgeted budget (prefixed chosen (oneDraw E (search E d) bs (c + 1) (looks + 1)))
-        → (k ≤ budget) × (budgeted budget (prefixed chosen (draws E (search E d) bs (last - (c + 1)) (c + 1 + 1) k)) ≡ A)
-    at-miss k e = let f = or-failed budget chosen next one k e in (f .0, f .1 ∙ step)
+    step : (p : ℕ) → p ≡ times (c + 1) bs → budgeted budget (one p) ≡ A
+    unfolding draws
+    step p is =
+        let e : last - c ≡ suc (last - (c + 1)) = omega arith in
+        ap (budgeted budget) (
+        ap one is ∙ ap (λ m. draw (E (times (c + 1) bs) (times (c + 1) bs)) (times (c + 1) bs) (search E d (complement (E (times (c + 1) bs)) bs)) (draws E (search E d) bs (last - (c + 1)) m) looks) (add-one (c + 1))
+        ∙ ap (λ n. draws E (search E d) bs n (c + 1) looks) (sym e)
+        ) ∙ inv
 
     -- a draw is left, and no look
     pub at-stop : looks ≡ budget → spent looks ≡ A
     at-stop e =
-        let u = one-up E (search E d) (search-up E d) bs (c + 1) (looks + 1) in
-        at-spent looks (ap spent e ∙ sym (spends-prefixed budget chosen one (omega arith)))
+        let p = times (c + 1) bs in
+        let u = draw-up (E p p) p (search E d (complement (E p) bs)) next (search-up E d (complement (E p) bs)) next-up looks in
+        ap spent e ∙ sym (spends budget (one p) (omega arith)) ∙ step p refl
+
+    module _ (p : ℕ) (is : p ≡ times (c + 1) bs) where
+      -- not accepted: the other draws follow
+      pub at-left : E p p ≡ false → budgeted budget (draws E (search E d) bs (last - (c + 1)) (c + 1 + 1) (looks + 1)) ≡ A
+      at-left a =
+          ap (λ n. budgeted budget (next n)) (add-one looks)
+          ∙ ap (λ b. budgeted budget (draw b p (search E d (complement (E p) bs)) next looks)) (sym a) ∙ step p is
+
+      module _ (a : E p p ≡ true) where
+        abbrev out : Outcome
+        out = afterRest p failed (search E d (complement (E p) bs) (looks + 1))
+
+        taken : budgeted budget (orNext next out) ≡ A
+        taken =
+            ap (budgeted budget) (ap (λ n. orNext next (afterRest p failed (search E d (complement (E p) bs) n))) (add-one looks)
+            ∙ sym (taken-is p next (search E d (complement (E p) bs) (suc looks)))
+            ∙ ap (λ b. draw b p (search E d (complement (E p) bs)) next looks) (sym a))
+            ∙ step p is
+
+        -- what the draw came to
+        module _ (v : Ending) (k : ℕ) (l : List ℕ)
+            (ens : verdictOf v k l ≡ budgeted budget (afterRest p failed (search E d (complement (E p) bs) (looks + 1)))) where
+          pub at-found : v ≡ Found → verdictOf v k l ≡ A
+          at-found is = let e = says-found v k l is in e ∙ or-found budget next out l k (sym e ∙ ens) ∙ taken
+
+          pub at-spent : v ≡ Spent → verdictOf v k l ≡ A
+          at-spent is = let e = says-spent v k l is in e ∙ or-spent budget next out next-up k (sym e ∙ ens) ∙ taken
+
+          -- failed: the other draws follow, from its looks on
+          pub at-failed : v ≡ Failed → budgeted budget (draws E (search E d) bs (last - (c + 1)) (c + 1 + 1) k) ≡ A
+          at-failed is = or-failed budget next out k (sym (says-failed v k l is) ∙ ens) ∙ taken

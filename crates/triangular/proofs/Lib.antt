@@ -3,3 +3,8 @@ pub mod Alternates
 pub mod Complete
 pub mod Looks
 pub mod Budgets
+pub mod Cores
+pub mod Drawing
+pub mod Dropping
+pub mod Copies
+pub mod Answers

@@ -1,1 +1,254 @@
-// The search for a basis that makes the core triangular. Its definitions are in specs/; nothing runs here.
+// The search for a basis that makes the core triangular, draw by draw under a budget.
+use binar::Row;
+use blocks::Block;
+ghost use mathlib.Core.Path.{_≡_};
+ghost use mathlib.Core.Bool.{true};
+ghost use mathlib.Core.List.{List, [], reverse};
+ghost use Prim.Native.Nat.{ℕ, suc, _-_, _^_, _≤_, _<_};
+ghost use lib.ListN.{length, getD, take};
+ghost use Rattle.binar.specs.Bits.{select, _⊕_, dot};
+ghost use Rattle.binar.specs.Rows.{val};
+ghost use Rattle.blocks.specs.Blocks.{vals, rowsOf};
+ghost use Rattle.blocks.specs.Matrices.{times, matmul, units};
+ghost use Rattle.reduction.specs.Residue.{form};
+ghost use Rattle.triangular.specs.Spaces.{complement, symmetricWith, isAlternating};
+ghost use Rattle.triangular.specs.Search.{failed, afterRest, search, budgeted};
+ghost use Rattle.triangular.specs.Readings.{basisOf, formsOf, coreOf, verdictOf, seen, seenBack};
+
+// A space: the members of a basis, and beside each its form row, the member times the core.
+pub struct Space {
+    pub basis: [Row; 64],
+    pub forms: [Row; 64],
+    pub count: usize,
+}
+
+pub enum Ending {
+    Found,
+    Failed,
+    Spent,
+}
+
+pub struct Searched {
+    pub ending: Ending,
+    pub looks: u64,
+    pub list: Block,
+}
+
+// y, and m with it where the bit is set.
+fn added(y: Row, m: Row, hit: bool) -> Row
+    ensures { λ r. ⌜ val r ≡ val y ⊕ select 0 hit (val m) ⌝ }
+{
+    if hit { binar::sum(y, m) } else { y }
+}
+
+// Whether the form is symmetric on member i and each member before it.
+fn symmetric_with(s: Space, i: usize) -> bool
+    requires { ⌜ (i < s .count) × (s .count ≤ 64) ⌝ }
+    ensures { λ r. ⌜ ((E : List ℕ) → matmul (basisOf s) E ≡ formsOf s
+        → r ≡ symmetricWith (form E) (getD (basisOf s) i 0) (take i (basisOf s))) ⌝ }
+{
+    let b = s.basis[i];
+    let f = s.forms[i];
+    for j in 0..i {
+        if binar::dot(f, s.basis[j]) != binar::dot(s.forms[j], b) {
+            return false;
+        }
+    }
+    true
+}
+
+fn is_alternating(s: Space) -> bool
+    requires { ⌜ s .count ≤ 64 ⌝ }
+    ensures { λ r. ⌜ ((E : List ℕ) → matmul (basisOf s) E ≡ formsOf s → r ≡ isAlternating (form E) (basisOf s)) ⌝ }
+{
+    let k = s.count;
+    for i in 0..k {
+        if binar::dot(s.forms[i], s.basis[i]) {
+            return false;
+        }
+        if !symmetric_with(s, i) {
+            return false;
+        }
+    }
+    true
+}
+
+// What a draw with form row f passes on: the first member that f has a dot with is dropped, and added to each later one that f has a dot with.
+fn right_orthogonal_complement(s: Space, f: Row) -> Space
+    requires { ⌜ (s .count ≤ 64) × ((j : ℕ) × (j < s .count) × (dot (val f) (getD (basisOf s) j 0) ≡ true)) ⌝ }
+    ensures { λ r. ⌜ (r .count ≡ s .count - 1)
+        × ((E : List ℕ) (p : ℕ) → matmul (basisOf s) E ≡ formsOf s → val f ≡ times p E
+        → (basisOf r ≡ complement (form E p) (basisOf s)) × (matmul (basisOf r) E ≡ formsOf r)) ⌝ }
+{
+    let mut t = s;
+    let mut j: usize = 0;
+    while !binar::dot(f, t.basis[j]) {
+        j += 1;
+    }
+    let m = t.basis[j];
+    let mf = t.forms[j];
+    let last = t.count - 1;
+    for n in j..last {
+        let y = t.basis[n + 1];
+        let yf = t.forms[n + 1];
+        let hit = binar::dot(f, y);
+        t.basis[n] = added(y, m, hit);
+        t.forms[n] = added(yf, mf, hit);
+    }
+    t.count = last;
+    t
+}
+
+// Row i is the sum of rows 0 to i.
+fn sums(rows: [Row; 64], k: usize) -> [Row; 64]
+    requires { ⌜ (0 < k) × (k ≤ 64) ⌝ }
+    ensures { λ r. ⌜ ((i : ℕ) → i < k → getD (vals r) i 0 ≡ times (2 ^ suc i - 1) (take k (vals rows))) ⌝ }
+{
+    let mut s = rows;
+    for i in 1..k {
+        let x = s[i - 1];
+        s[i] = binar::sum(x, s[i]);
+    }
+    s
+}
+
+// An ending with no list.
+fn bare(ending: Ending, looks: u64) -> Searched
+    ensures { λ r. ⌜ (seenBack r ≡ verdictOf ending looks []) × (r .looks ≡ looks) ⌝ }
+{
+    Searched {
+        ending: ending,
+        looks: looks,
+        list: blocks::empty(),
+    }
+}
+
+// The search of what the draw p, with form row f, passes on; p stands behind what it finds.
+fn try_draw(s: Space, p: Row, f: Row, looks: u64, budget: u64) -> Searched
+    requires { ⌜ (0 < s .count) × (s .count ≤ 64) × (looks ≤ budget) × (dot (val f) (val p) ≡ true)
+        × ((c : ℕ) × (val p ≡ times c (basisOf s)) × (val f ≡ times c (formsOf s))) ⌝ }
+    ensures { λ r. ⌜ (r .looks ≤ budget) × ((E : List ℕ) → matmul (basisOf s) E ≡ formsOf s
+        → seenBack r ≡ budgeted budget (afterRest (val p) failed (search (form E) (s .count - 1) (complement (form E (val p)) (basisOf s)) looks))) ⌝ }
+{
+    let rest = right_orthogonal_complement(s, f);
+    let o = try_space(rest, looks, budget);
+    let e = o.ending;
+    match e {
+        Ending::Failed => {
+            return o;
+        }
+        Ending::Spent => {
+            return o;
+        }
+        Ending::Found => {
+            let l = o.list;
+            return Searched {
+                ending: Ending::Found,
+                looks: o.looks,
+                list: blocks::push(l, p),
+            };
+        }
+    }
+}
+
+// The search of a space: its vectors in the order of their coefficients c, each drawn from the one before it.
+fn try_space(s: Space, looks: u64, budget: u64) -> Searched
+    requires { ⌜ (s .count ≤ 64) × (looks ≤ budget) ⌝ }
+    ensures { λ r. ⌜ (r .looks ≤ budget) × ((E : List ℕ) → matmul (basisOf s) E ≡ formsOf s
+        → seenBack r ≡ budgeted budget (search (form E) (s .count) (basisOf s) looks)) ⌝ }
+{
+    let d = s.count;
+    if d == 0 {
+        return bare(Ending::Found, looks);
+    }
+    if is_alternating(s) {
+        return bare(Ending::Failed, looks);
+    }
+    let b = s.basis;
+    let g = s.forms;
+    let pb = sums(b, d);
+    let pf = sums(g, d);
+    let last = binar::low_ones(d);
+    let mut c = binar::zero();
+    let mut p = c;
+    let mut f = c;
+    let mut spent = looks;
+    while binar::less(c, last) {
+        c = binar::next(c);
+        if spent == budget {
+            return bare(Ending::Spent, spent);
+        }
+        spent += 1;
+        let k = binar::lowest(c);
+        p = binar::sum(p, pb[k]);
+        f = binar::sum(f, pf[k]);
+        if binar::dot(f, p) {
+            let o = try_draw(s, p, f, spent, budget);
+            let e = o.ending;
+            match e {
+                Ending::Failed => {
+                    spent = o.looks;
+                }
+                Ending::Found => {
+                    return o;
+                }
+                Ending::Spent => {
+                    return o;
+                }
+            }
+        }
+    }
+    bare(Ending::Failed, spent)
+}
+
+// How many rows the core has.
+fn size_of(core: Block) -> usize
+    ensures { λ r. ⌜ (r ≤ 64) × (r ≡ length (coreOf core)) ⌝ }
+{
+    let n = blocks::length_of(core);
+    if n < 64 { n } else { 64 }
+}
+
+// The space of all rows as wide as the core: the unit rows, with the rows of the core for their form rows.
+fn whole(core: Block) -> Space
+    ensures { λ r. ⌜ (r .count ≤ 64) × (r .count ≡ length (coreOf core)) × (basisOf r ≡ units (length (coreOf core))) × (formsOf r ≡ coreOf core) ⌝ }
+{
+    let k = size_of(core);
+    let z = binar::zero();
+    let mut s = Space {
+        basis: [z; 64],
+        forms: [z; 64],
+        count: k,
+    };
+    for i in 0..k {
+        s.basis[i] = binar::unit(i);
+        s.forms[i] = core.rows[i];
+    }
+    s
+}
+
+// The rows from the last to the first.
+fn reversed(b: Block) -> Block
+    ensures { λ r. ⌜ rowsOf r ≡ reverse (rowsOf b) ⌝ }
+{
+    let k = blocks::length_of(b);
+    let mut n = blocks::empty();
+    for i in 0..k {
+        n = blocks::push(n, b.rows[k - 1 - i]);
+    }
+    n
+}
+
+// Looks for a basis that makes the core triangular. Of a core of more than 64 rows the first 64 are taken.
+pub fn congruence_triangularize(core: Block, budget: u64) -> Searched
+    ensures { λ r. ⌜ seen r ≡ budgeted budget (search (form (coreOf core)) (length (coreOf core)) (units (length (coreOf core))) 0) ⌝ }
+{
+    let o = try_space(whole(core), 0, budget);
+    let e = o.ending;
+    let l = o.list;
+    Searched {
+        ending: e,
+        looks: o.looks,
+        list: reversed(l),
+    }
+}

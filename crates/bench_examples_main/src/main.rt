@@ -1,0 +1,61 @@
+// Runs bench examples of the calls that are not starred. A line says the call, its number and its count, and for gates the rows written.
+use libc::STDOUT_FILENO;
+use replays::Answer;
+
+fn print_answer(name: &[u8], a: Answer) {
+    io::write_all(STDOUT_FILENO, name);
+    io::write_all(STDOUT_FILENO, b": ");
+    io::print_decimal(STDOUT_FILENO, a.number);
+    io::write_all(STDOUT_FILENO, b" ");
+    io::print_decimal(STDOUT_FILENO, a.count);
+}
+
+fn print_rows(rows: &[u64]) {
+    for i in 0..rows.len() {
+        io::write_all(STDOUT_FILENO, b" ");
+        io::print_decimal(STDOUT_FILENO, rows[i]);
+    }
+}
+
+// The rebuild of the empty list, in 64 rows.
+fn rebuild_empty(name: &[u8], n: u64) {
+    let list = [0u64; 0];
+    let mut out = [0u64; 64];
+    let a = replays::rebuild_answer(n, &list, &mut out);
+    print_answer(name, a);
+    io::write_all(STDOUT_FILENO, b"\n");
+}
+
+// The greedy list of the identity on 32 qubits, whose rows are the rebuild of the empty list.
+fn greedy_identity(name: &[u8], out: &mut [u64]) {
+    let list = [0u64; 0];
+    let mut rows = [0u64; 64];
+    replays::rebuild_answer(32, &list, &mut rows);
+    let a = replays::greedy_answer(32, &rows, out);
+    print_answer(name, a);
+    io::write_all(STDOUT_FILENO, b"\n");
+}
+
+// A gate sequence on 2 qubits.
+fn gates(name: &[u8], bytes: &[u8]) {
+    let mut out = [0u64; 4];
+    let a = replays::gates_answer(2, bytes, &mut out);
+    print_answer(name, a);
+    if a.number == 0 {
+        print_rows(&out);
+    }
+    io::write_all(STDOUT_FILENO, b"\n");
+}
+
+fn main() {
+    rebuild_empty(b"rebuild 32", 32);
+    rebuild_empty(b"rebuild 33", 33);
+    let mut enough = [0u64; 130];
+    greedy_identity(b"greedy 32, 130 words", &mut enough);
+    let mut short = [0u64; 129];
+    greedy_identity(b"greedy 32, 129 words", &mut short);
+    gates(b"gates 2, SWAP 0 1", &[5, 0, 1]);
+    gates(b"gates 2, CX 1 1", &[3, 1, 1]);
+    gates(b"gates 2, SWAP 0 1 and 2 bytes more", &[5, 0, 1, 9, 9]);
+    gates(b"gates 2, 2 bytes", &[9, 9]);
+}
