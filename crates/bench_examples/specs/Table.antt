@@ -8,7 +8,7 @@ use Rattle.symplectic.specs.Replies.{Reply}
 use Rattle.gates.specs.Sequences.{gatesReply}
 use Rattle.transvection.specs.Greedy.{greedyReply}
 use Rattle.transvection_exact.specs.Minimal.{minimalReply}
-use Rattle.job.specs.Printout.{printout}
+use Rattle.printout.specs.Printout.{printout}
 
 -- a public call and what it is given
 pub data Call : Type 0 where

@@ -2,7 +2,7 @@
 ghost use mathlib.Core.Path.{_≡_};
 ghost use Prim.Native.Nat.{_+_, _-_, _/_, _%_, _^_, _<_};
 ghost use lib.Dec.{eqb, ltb};
-ghost use Rattle.binar.specs.Bits.{_⊕_, bit as bitOf, dot as dotOf};
+ghost use Rattle.binar.specs.Bits.{_⊕_, bit as bitOf, dot as dotOf, weight as weightOf};
 ghost use Rattle.binar.specs.Rows.{val, width, unit as unitOf, lowest as lowestOf};
 
 pub struct Row {
@@ -144,4 +144,11 @@ pub fn low_ones(k: usize) -> Row
     } else {
         Row { word: u64::MAX }
     }
+}
+
+// The count of ones.
+pub fn weight(a: Row) -> u64
+    ensures { λ r. ⌜ r ≡ weightOf (val a) ⌝ }
+{
+    u64::count_ones(a.word) as u64
 }

@@ -1,3 +1,1 @@
 pub mod Files
-pub mod Lines
-pub mod Printout

@@ -1,1 +1,1 @@
-// The job file and its printout. Its definitions are in specs/; nothing runs here.
+// The job file. Its definitions are in specs/; nothing runs here.

@@ -7,8 +7,8 @@ use Rattle.symplectic.specs.Replies.{Reply, refused}
 use Rattle.gates.specs.Sequences.{gatesReply}
 use Rattle.transvection.specs.Greedy.{greedyReply}
 use Rattle.transvection_exact.specs.Minimal.{minimalReply}
 use Rattle.job.specs.Files.{littleEndian, part, qubitCount, entryCount, Entry, entry, partSize, fileQuestions}
-use Rattle.job.specs.Lines.{minName, greedyName, line, fileLine}
+use Rattle.lines.specs.Lines.{minName, greedyName, line, fileLine}
 
 -- the program's budget
 abbrev pub jobBudget : ℕ

@@ -1,0 +1,4 @@
+pub mod Cuts
+pub mod Decimals
+pub mod Spelling
+pub mod Fits

@@ -1,0 +1,201 @@
+// A line of the printout, by value. Each function writes behind the bytes that a line has.
+use binar::Row;
+ghost use mathlib.Core.Path.{_≡_};
+ghost use mathlib.Core.List.{[], _∷_, _++_};
+ghost use Prim.Native.Nat.{_+_, min};
+ghost use lib.ListN.{take};
+ghost use Rattle.binar.specs.Rows.{val};
+ghost use Rattle.blocks.specs.Words.{rowsOfWords};
+ghost use Rattle.lines.specs.Lines.{decimal as decimalOf, letter as letterOf, letters as lettersOf, load as loadOf, space, spelled as spelledOf, field as fieldOf, line as lineOf, fileLine};
+ghost use Rattle.lines.specs.Bytes.{lineRoom, bytesOf, nameBytes, tallied, replyOf};
+
+// Room for the longest line: 130 vectors of 32 letters. What does not fit is cut.
+pub struct Line {
+    pub bytes: [u8; 4608],
+    pub count: usize,
+}
+
+pub enum Name {
+    Min,
+    Greedy,
+}
+
+// A number as its tens and its last digit: a load may pass 64 bits.
+pub struct Tally {
+    pub tens: u64,
+    pub unit: u64,
+}
+
+// An answer without the lent words.
+pub struct Told {
+    pub number: u64,
+    pub count: u64,
+    pub looks: u64,
+}
+
+fn lesser(m: usize, n: usize) -> usize
+    ensures { λ r. ⌜ r ≡ min m n ⌝ }
+{
+    if m < n { m } else { n }
+}
+
+pub fn empty() -> Line
+    ensures { λ r. ⌜ bytesOf r ≡ [] ⌝ }
+{
+    Line {
+        bytes: [0; 4608],
+        count: 0,
+    }
+}
+
+pub fn push(l: Line, b: u8) -> Line
+    ensures { λ r. ⌜ bytesOf r ≡ take lineRoom (bytesOf l ++ (b ∷ [])) ⌝ }
+{
+    let k = l.count;
+    if k < 4608 {
+        let mut n = l;
+        n.bytes[k] = b;
+        n.count = k + 1;
+        n
+    } else {
+        l
+    }
+}
+
+fn append(l: Line, text: &[u8]) -> Line
+    ensures { λ r. ⌜ bytesOf r ≡ take lineRoom (bytesOf l ++ now (text .entry)) ⌝ }
+{
+    let k = lesser(l.count, 4608);
+    let m = lesser(text.len(), 4608 - k);
+    let mut n = l;
+    for q in 0..m {
+        n.bytes[k + q] = text[q];
+    }
+    n.count = k + m;
+    n
+}
+
+fn tally_of(v: u64) -> Tally
+    ensures { λ r. ⌜ tallied r ≡ v ⌝ }
+{
+    Tally {
+        tens: v / 10,
+        unit: v % 10,
+    }
+}
+
+pub fn decimal(l: Line, v: Tally) -> Line
+    ensures { λ r. ⌜ bytesOf r ≡ take lineRoom (bytesOf l ++ decimalOf (tallied v)) ⌝ }
+{
+    let d = (48 + v.unit % 10) as u8;
+    if v.tens == 0 {
+        push(l, d)
+    } else {
+        push(decimal(l, tally_of(v.tens)), d)
+    }
+}
+
+pub fn field(l: Line, v: Tally) -> Line
+    ensures { λ r. ⌜ bytesOf r ≡ take lineRoom (bytesOf l ++ fieldOf (tallied v)) ⌝ }
+{
+    decimal(push(l, 32), v)
+}
+
+pub fn append_name(l: Line, which: Name) -> Line
+    ensures { λ r. ⌜ bytesOf r ≡ take lineRoom (bytesOf l ++ nameBytes which) ⌝ }
+{
+    match which {
+        Name::Min => append(l, b"min"),
+        Name::Greedy => append(l, b"greedy"),
+    }
+}
+
+// The letter of a qubit with bits x and z.
+pub fn letter(x: bool, z: bool) -> u8
+    ensures { λ r. ⌜ r ≡ letterOf x z ⌝ }
+{
+    if z {
+        if x { 89 } else { 90 }
+    } else {
+        if x { 88 } else { 73 }
+    }
+}
+
+// The letters of a vector of n qubits.
+pub fn letters(l: Line, n: usize, v: Row) -> Line
+    ensures { λ r. ⌜ bytesOf r ≡ take lineRoom (bytesOf l ++ lettersOf n (val v)) ⌝ }
+{
+    let k = lesser(l.count, 4608);
+    let m = lesser(n, 4608 - k);
+    let high = binar::shift_down(v, n);
+    let mut out = l;
+    for q in 0..m {
+        out.bytes[k + q] = letter(binar::bit(v, q), binar::bit(high, q));
+    }
+    out.count = k + m;
+    out
+}
+
+// Each vector, after a space.
+pub fn spelled(l: Line, n: usize, words: &[u64]) -> Line
+    ensures { λ r. ⌜ bytesOf r ≡ take lineRoom (bytesOf l ++ spelledOf n (rowsOfWords (now (words .entry)))) ⌝ }
+{
+    let mut out = l;
+    for i in 0..words.len() {
+        out = letters(push(out, 32), n, binar::of_word(words[i]));
+    }
+    out
+}
+
+// The count of ones in the vectors.
+pub fn load(words: &[u64]) -> Tally
+    ensures { λ r. ⌜ tallied r ≡ loadOf (rowsOfWords (now (words .entry))) ⌝ }
+{
+    let mut tens: u64 = 0;
+    let mut unit: u64 = 0;
+    for i in 0..words.len() {
+        let sum = unit + binar::weight(binar::of_word(words[i]));
+        tens += sum / 10;
+        unit = sum % 10;
+    }
+    Tally {
+        tens: tens,
+        unit: unit,
+    }
+}
+
+// The entry number and the name.
+fn front(i: u64, which: Name) -> Line
+    ensures { λ r. ⌜ bytesOf r ≡ take lineRoom (decimalOf i ++ (space ∷ nameBytes which)) ⌝ }
+{
+    let l = decimal(empty(), tally_of(i));
+    append_name(push(l, 32), which)
+}
+
+// The refusal, the vector count, the load and the looks.
+fn numbers(l: Line, told: Told, load: Tally) -> Line
+    ensures { λ r. ⌜ bytesOf r ≡ take lineRoom (bytesOf l ++ fieldOf (told .number) ++ fieldOf (told .count) ++ fieldOf (tallied load) ++ fieldOf (told .looks)) ⌝ }
+{
+    let looks = tally_of(told.looks);
+    let number = field(l, tally_of(told.number));
+    let count = field(number, tally_of(told.count));
+    field(field(count, load), looks)
+}
+
+// The line of entry i, of n qubits.
+pub fn entry_line(n: u64, i: u64, which: Name, told: Told, words: &[u64]) -> Line
+    ensures { λ r. ⌜ bytesOf r ≡ take lineRoom (lineOf n i (nameBytes which) (replyOf told (now (words .entry)))) ⌝ }
+{
+    let k = lesser(told.count as usize, words.len());
+    let vs = &words[..k];
+    let head = numbers(front(i, which), told, load(vs));
+    push(spelled(head, n as usize, vs), 10)
+}
+
+// The one line of a refused file.
+pub fn file_line(number: u64) -> Line
+    ensures { λ r. ⌜ bytesOf r ≡ fileLine number ⌝ }
+{
+    let l = append(empty(), b"file");
+    push(field(l, tally_of(number)), 10)
+}

@@ -1,0 +1,1 @@
+// The printout of a job file. Its definitions are in specs/; nothing runs here.
