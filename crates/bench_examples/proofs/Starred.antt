@@ -15,7 +15,7 @@ use Rattle.reduction.specs.Residue.{residue, reduction, basis, transform, times
 use Rattle.triangular.specs.Search.{draws, search, budgeted}
 use Rattle.triangular.specs.Spaces.{complement, symmetricWith, isAlternating}
 use Rattle.bordered.specs.Checks.{unitLower, validate, verifiesBordered, checkedList, borderedList}
-use Rattle.bordered.specs.Family.{splitAt, withPartner, fromFirst, symplecticSimplex, peeled, borderedFamily}
+use Rattle.family.specs.Family.{splitAt, withPartner, fromFirst, symplecticSimplex, peeled, borderedFamily}
 use Rattle.transvection.specs.Greedy.{besideBasis, firstNonzero, nextTransvection, recorded, greedyList, greedyReply}
 use Rattle.transvection_exact.specs.Minimal.{coreSearch, minimalReply}
 use Rattle.gates.specs.Sequences.{readsTwo, gateQuestions, sequenceQuestions, sequenceTurns, gatesReply}

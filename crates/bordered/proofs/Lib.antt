@@ -1,1 +1,5 @@
 pub mod Verified
+pub mod Marked
+pub mod Onwards
+pub mod Verdicts
+pub mod Listed

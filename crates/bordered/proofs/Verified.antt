@@ -18,7 +18,7 @@ use Rattle.symplectic.proofs.Products.{product-length, product-lt}
 use Rattle.symplectic.proofs.Questions.{fit-all}
 use Rattle.reduction.specs.Residue.{basis, core, form}
 use Rattle.reduction.proofs.Core.{basis-size}
-use Rattle.bordered.specs.Family.{borderedFamily}
+use Rattle.family.specs.Family.{borderedFamily}
 use Rattle.bordered.specs.Checks.{vectors, validate, sameRows, verifiesBordered, passing, checkedList, borderedList}
 
 pub rows-equal : (xs ys : List ℕ) → sameRows xs ys ≡ true → xs ≡ ys

@@ -12,7 +12,7 @@ use Rattle.symplectic.specs.Turns.{allOf, product}
 use Rattle.symplectic.specs.Replies.{fitAll}
 use Rattle.reduction.specs.Columns.{rank}
 use Rattle.reduction.specs.Residue.{basis, core, form}
-use Rattle.bordered.specs.Family.{borderedFamily}
+use Rattle.family.specs.Family.{borderedFamily}
 
 -- the vectors of a family
 abbrev pub vectors : List (ℕ × Bool) → List ℕ

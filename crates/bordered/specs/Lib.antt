@@ -1,2 +1,2 @@
-pub mod Family
 pub mod Checks
+pub mod Readings

@@ -1,1 +1,165 @@
-// The job file. Its definitions are in specs/; nothing runs here.
+// The job file, read from lent bytes: its numbers, its entries, and the questions of the whole file.
+ghost use mathlib.Core.Path.{_≡_};
+ghost use Prim.Native.Nat.{_+_, _*_, _^_, _<_, _≤_};
+ghost use lib.ListN.{getD};
+ghost use Rattle.job.specs.Files.{number as numberIn, qubitCount, entryCount, entry, partSize, entryPasses, entriesPass, fileQuestions};
+ghost use Rattle.job.specs.Answers.{entryOf, numberOf};
+
+// An entry of the file.
+pub struct Item {
+    pub kind: u64,
+    pub zero_byte: u64,
+    pub count: u64,
+    pub offset: u64,
+}
+
+// Which question of the file is answered no, if any.
+pub enum FileAnswer {
+    Passed,
+    BadLength,
+    TooManyQubits,
+    BadEntry,
+}
+
+// ---- numbers
+
+// The byte i behind `from`. Past the end, 0.
+fn byte_at(file: &[u8], from: u64, i: u64) -> u64
+    ensures { λ r. ⌜ (r ≡ getD (now (file .entry)) (from + i) 0) × (r < 256) ⌝ }
+{
+    let length = file.len() as u64;
+    if length <= from {
+        return 0;
+    }
+    if length - from <= i {
+        return 0;
+    }
+    let at = (from + i) as usize;
+    file[at] as u64
+}
+
+// The little-endian number of at most 8 bytes that stands `skip` bytes behind `from`.
+fn number(file: &[u8], from: u64, skip: u64, size: u64) -> u64
+    requires { ⌜ (size ≤ 8) × (skip + size ≤ 18446744073709551616) ⌝ }
+    ensures { λ r. ⌜ (r ≡ numberIn (now (file .entry)) (from + skip) size) × (r < 256 ^ size) ⌝ }
+{
+    let mut v: u64 = 0;
+    let mut i = size;
+    while 0 < i {
+        i -= 1;
+        let b = byte_at(file, from, skip + i);
+        v = b + 256 * v;
+    }
+    v
+}
+
+pub fn qubit_count(file: &[u8]) -> u64
+    ensures { λ r. ⌜ (r ≡ qubitCount (now (file .entry))) × (r < 65536) ⌝ }
+{
+    number(file, 0, 0, 2)
+}
+
+pub fn entry_count(file: &[u8]) -> u64
+    ensures { λ r. ⌜ (r ≡ entryCount (now (file .entry))) × (r < 65536) ⌝ }
+{
+    number(file, 2, 0, 2)
+}
+
+// Word k of the part that begins at `offset`. Past the end, 0.
+pub fn word_at(file: &[u8], offset: u64, k: u64) -> u64
+    ensures { λ r. ⌜ r ≡ numberIn (now (file .entry)) (offset + 8 * k) 8 ⌝ }
+{
+    if 2305843009213693951 < k {
+        return 0;
+    }
+    number(file, offset, 8 * k, 8)
+}
+
+// ---- entries
+
+// Entry i. Past the end, all 0.
+pub fn entry_at(file: &[u8], i: u64) -> Item
+    ensures { λ r. ⌜ (entryOf r ≡ entry (now (file .entry)) i) × (r .count < 65536) × (r .offset < 4294967296) ⌝ }
+{
+    if 2305843009213693951 < i {
+        return Item {
+            kind: 0,
+            zero_byte: 0,
+            count: 0,
+            offset: 0,
+        };
+    }
+    let at = 8 * i;
+    Item {
+        kind: number(file, 4, at, 1),
+        zero_byte: number(file, 4, at + 1, 1),
+        count: number(file, 4, at + 2, 2),
+        offset: number(file, 4, at + 4, 4),
+    }
+}
+
+// The bytes of an entry's part: 8 for a row, 3 for a gate.
+pub fn part_size(e: Item) -> u64
+    ensures { λ r. ⌜ (e .count < 65536 → (r ≡ partSize (entryOf e)) × (r < 524288)) ⌝ }
+{
+    if 65535 < e.count {
+        return 0;
+    }
+    if e.kind == 0 {
+        return 8 * e.count;
+    }
+    3 * e.count
+}
+
+// ---- questions
+
+// Whether entry i has a known kind, a zero byte, and its part within the file.
+fn entry_passes(file: &[u8], i: u64) -> bool
+    ensures { λ r. ⌜ r ≡ entryPasses (now (file .entry)) (entry (now (file .entry)) i) ⌝ }
+{
+    let length = file.len() as u64;
+    let e = entry_at(file, i);
+    let end = e.offset + part_size(e);
+    if 1 < e.kind {
+        return false;
+    }
+    if e.zero_byte != 0 {
+        return false;
+    }
+    end <= length
+}
+
+fn entries_pass(file: &[u8], k: u64) -> bool
+    ensures { λ r. ⌜ r ≡ entriesPass (now (file .entry)) k ⌝ }
+{
+    for i in 0..k {
+        if !entry_passes(file, i) {
+            return false;
+        }
+    }
+    true
+}
+
+// Questions 12, 1 and 13.
+pub fn file_questions(file: &[u8]) -> FileAnswer
+    ensures { λ r. ⌜ numberOf r ≡ fileQuestions (now (file .entry)) ⌝ }
+{
+    let length = file.len() as u64;
+    if length < 4 {
+        return FileAnswer::BadLength;
+    }
+    if 65536 < length {
+        return FileAnswer::BadLength;
+    }
+    let k = entry_count(file);
+    if length < 4 + 8 * k {
+        return FileAnswer::BadLength;
+    }
+    if 32 < qubit_count(file) {
+        return FileAnswer::TooManyQubits;
+    }
+    if !entries_pass(file, k) {
+        return FileAnswer::BadEntry;
+    }
+    FileAnswer::Passed
+}

@@ -78,16 +78,6 @@ module _ (f : ℕ → Bool) (f-add : Additive 𝕎 𝔹 f) where
       go true g ih = ap suc (sym (length-map bs (past m)))
       go false g ih = ap suc (ih (at-plus-none x c m g ∙ e))
 
-  -- where a member of the span passes, so does one of the list
-  pub some-passes : (bs : List ℕ) (x : ℕ) → f x ≡ true → InSpan 𝕎 bs x → (j : ℕ) × (j < length bs) × (f (getD bs j 0) ≡ true)
-  some-passes [] x e h = absurd (true≢false (sym e ∙ ap f h ∙ map-o 𝕎 𝔹 f f-add))
-  some-passes (m ∷ bs) x e (c, h) = go (f m) refl (λ g. some-passes bs (x ⊕ select 0 c m) g h)
-    where
-      go : (b : Bool) → f m ≡ b → (f (x ⊕ select 0 c m) ≡ true → (j : ℕ) × (j < length bs) × (f (getD bs j 0) ≡ true))
-          → (j : ℕ) × (j < suc (length bs)) × (f (getD (m ∷ bs) j 0) ≡ true)
-      go true g ih = (zero, zero-lt-suc (length bs), g)
-      go false g ih = let r = ih (at-plus-none x c m g ∙ e) in (suc (r .0), suc-le-suc (r .1), r .2)
-
   -- x and what is passed on span what was there, with as many members
   pub complement-indep : (bs : List ℕ) → Indep 𝕎 bs → (x : ℕ) → f x ≡ true → InSpan 𝕎 bs x → Indep 𝕎 (complement f bs)
   complement-indep bs i x e h =

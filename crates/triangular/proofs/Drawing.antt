@@ -24,7 +24,8 @@ use Rattle.blocks.proofs.Products.{times-sum, times-unit, lowest-row}
 use Rattle.linear.specs.Span.{InSpan}
 use Rattle.linear.proofs.Instances.{𝕎}
 use Rattle.linear.proofs.Rows.{times-in}
-use Rattle.triangular.proofs.Complements.{some-passes}
+use Rattle.triangular.specs.Spaces.{complement}
+use Rattle.triangular.proofs.Complements.{complement-length}
 
 -- the last coefficient
 pub ones-last : (d x : ℕ) → d ≤ 64 → x ≡ (2 ^ d - 1) % 2 ^ width → x ≡ 2 ^ d - 1
@@ -107,7 +108,6 @@ module _ (d last c x : ℕ) (fits : d ≤ 64) (last-is : last ≡ (2 ^ d - 1) % 
       ap₂ _⊕_ e (f ∙ ap (λ t. times (2 ^ suc t - 1) M) (l ∙ ap lowest next-is)) ∙ sym (times-sum M c (2 ^ suc (lowest (c + 1)) - 1))
       ∙ ap (λ t. times t M) (sym (next-flips c inside .1) ∙ sym next-is)
 
--- a drawn vector with a dot: one of the members has it
-pub drawn-passes : (f : ℕ) (B : List ℕ) (n c p : ℕ) → length B ≡ n → p ≡ times c B → dot f p ≡ true → (j : ℕ) × (j < n) × (dot f (getD B j 0) ≡ true)
-drawn-passes f B n c p size e on =
-    let r = some-passes (dot f) (dot-sum f) B p on (subst (InSpan 𝕎 B) (sym e) (times-in c B)) in (r .0, omega (arith, r .1), r .2)
+-- a drawn vector with a dot: its complement has a member less
+pub drawn-shorter : (f : ℕ) (B : List ℕ) (c p : ℕ) → p ≡ times c B → dot f p ≡ true → length B ≡ suc (length (complement (dot f) B))
+drawn-shorter f B c p e on = complement-length (dot f) (dot-sum f) B p on (subst (InSpan 𝕎 B) (sym e) (times-in c B))

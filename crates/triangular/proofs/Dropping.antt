@@ -1,13 +1,11 @@
 -- How a loop makes the complement in place: member j is left out, each later one moves down by one place and is changed, and its form row with it.
 -- Assumes nothing.
 use mathlib.Core.Path.{_≡_, refl, sym, ap, ap₂, _∙_}
-use mathlib.Core.Bool.{Bool, true, false, true≢false}
+use mathlib.Core.Bool.{Bool, true, false}
 use mathlib.Core.Logic.{⊎-elim}
 use mathlib.Core.List.{List, [], _∷_, _++_, map, append-nil}
 use Prim.Native.Nat.{ℕ, zero, suc, _+_, _≤_, _<_, zero-le}
 use native.Mathlib.Nat.{eq-or-lt-of-le}
-use lib.Dec.{leb}
-use borrow.Author.Tests.{leb-true, leb-false}
 use native.Mathlib.Numerals.{add-one}
 use native.Mathlib.Omega.{arith}
 use lib.ListN.{length, getD, set, take, drop, length-append, length-drop, drop-of-length-le}
@@ -97,14 +95,6 @@ module _ (has : ℕ → Bool) (B : List ℕ) where
     where
       le-of : (i : ℕ) → i < j + 1 → i ≤ j
       le-of i h = omega arith
-
-  -- one that passes is not before j
-  pub before-le : (j k : ℕ) → Before j → has (getD B k 0) ≡ true → j ≤ k
-  before-le j k b e = go (leb j k) refl
-    where
-      go : (t : Bool) → leb j k ≡ t → j ≤ k
-      go true q = leb-true j k q
-      go false q = absurd (true≢false (sym e ∙ b k (leb-false j k q)))
 
   pub first-found : (j : ℕ) → Before j → j < length B → has (getD B j 0) ≡ true → First has 0 B 0 j
   first-found j b h e = record { from = zero-le; inside = h; before = λ i a l. b i l; at = e }

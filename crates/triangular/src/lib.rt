@@ -2,9 +2,9 @@
 use binar::Row;
 use blocks::Block;
 ghost use mathlib.Core.Path.{_≡_};
-ghost use mathlib.Core.Bool.{true};
+ghost use mathlib.Core.Bool.{true, false};
 ghost use mathlib.Core.List.{List, [], reverse};
-ghost use Prim.Native.Nat.{ℕ, suc, _-_, _^_, _≤_, _<_};
+ghost use Prim.Native.Nat.{ℕ, suc, _-_, _^_, _≤_, _<_, min};
 ghost use lib.ListN.{length, getD, take};
 ghost use Rattle.binar.specs.Bits.{select, _⊕_, dot};
 ghost use Rattle.binar.specs.Rows.{val};
@@ -73,18 +73,41 @@ fn is_alternating(s: Space) -> bool
     true
 }
 
-// What a draw with form row f passes on: the first member that f has a dot with is dropped, and added to each later one that f has a dot with.
-fn right_orthogonal_complement(s: Space, f: Row) -> Space
-    requires { ⌜ (s .count ≤ 64) × ((j : ℕ) × (j < s .count) × (dot (val f) (getD (basisOf s) j 0) ≡ true)) ⌝ }
-    ensures { λ r. ⌜ (r .count ≡ s .count - 1)
-        × ((E : List ℕ) (p : ℕ) → matmul (basisOf s) E ≡ formsOf s → val f ≡ times p E
-        → (basisOf r ≡ complement (form E p) (basisOf s)) × (matmul (basisOf r) E ≡ formsOf r)) ⌝ }
+// A count above the room means the room.
+fn capped(s: Space) -> Space
+    ensures { λ r. ⌜ (r .count ≡ length (basisOf r)) × (r .count ≤ 64) × (basisOf r ≡ basisOf s) × (formsOf r ≡ formsOf s) ⌝ }
+{
+    if 64 < s.count {
+        let mut t = s;
+        t.count = 64;
+        t
+    } else {
+        s
+    }
+}
+
+// The first member that f has a dot with; the count where there is none.
+fn first_dot(s: Space, f: Row) -> usize
+    requires { ⌜ s .count ≤ 64 ⌝ }
+    ensures { λ r. ⌜ (r ≤ s .count) × ((i : ℕ) → i < r → dot (val f) (getD (basisOf s) i 0) ≡ false)
+        × (r < s .count → dot (val f) (getD (basisOf s) r 0) ≡ true) ⌝ }
+{
+    let k = s.count;
+    for j in 0..k {
+        if binar::dot(f, s.basis[j]) {
+            return j;
+        }
+    }
+    k
+}
+
+// Member j, the first that f has a dot with, is dropped and added to each later one that f has a dot with.
+fn dropped(s: Space, f: Row, j: usize) -> Space
+    requires { ⌜ (s .count ≤ 64) × (j < s .count) × ((i : ℕ) → i < j → dot (val f) (getD (basisOf s) i 0) ≡ false) × (dot (val f) (getD (basisOf s) j 0) ≡ true) ⌝ }
+    ensures { λ r. ⌜ (r .count ≡ s .count - 1) × (basisOf r ≡ complement (dot (val f)) (basisOf s))
+        × ((E : List ℕ) → matmul (basisOf s) E ≡ formsOf s → matmul (basisOf r) E ≡ formsOf r) ⌝ }
 {
     let mut t = s;
-    let mut j: usize = 0;
-    while !binar::dot(f, t.basis[j]) {
-        j += 1;
-    }
     let m = t.basis[j];
     let mf = t.forms[j];
     let last = t.count - 1;
@@ -97,6 +120,16 @@ fn right_orthogonal_complement(s: Space, f: Row) -> Space
     }
     t.count = last;
     t
+}
+
+// What a draw with form row f passes on; the space itself where f has a dot with no member.
+pub fn right_orthogonal_complement(s: Space, f: Row) -> Space
+    ensures { λ r. ⌜ (r .count ≡ length (basisOf r)) × (r .count ≤ 64) × (basisOf r ≡ complement (dot (val f)) (basisOf s))
+        × ((E : List ℕ) → matmul (basisOf s) E ≡ formsOf s → matmul (basisOf r) E ≡ formsOf r) ⌝ }
+{
+    let t = capped(s);
+    let j = first_dot(t, f);
+    if j < t.count { dropped(t, f, j) } else { t }
 }
 
 // Row i is the sum of rows 0 to i.
@@ -210,7 +243,7 @@ fn size_of(core: Block) -> usize
 }
 
 // The space of all rows as wide as the core: the unit rows, with the rows of the core for their form rows.
-fn whole(core: Block) -> Space
+pub fn whole(core: Block) -> Space
     ensures { λ r. ⌜ (r .count ≤ 64) × (r .count ≡ length (coreOf core)) × (basisOf r ≡ units (length (coreOf core))) × (formsOf r ≡ coreOf core) ⌝ }
 {
     let k = size_of(core);

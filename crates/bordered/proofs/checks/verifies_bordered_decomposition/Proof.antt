@@ -1,0 +1,111 @@
+-- `verifies_bordered_decomposition` answers by the first test that fails, or by the last, as `list-tests` has them.
+-- Assumes nothing.
+use Rattle.bordered.proofs.Verdicts.{chain, chain-left, chain-stops, list-tests}
+use Rattle.bordered.specs.Checks.{sameRows}
+use Rattle.symplectic.proofs.Arrays.{qubits-le}
+use Rattle.symplectic.specs.Replies.{fitAll}
+use Rattle.symplectic.specs.Turns.{allOf, product}
+use Rattle.symplectic.specs.Actions.{qubits, matrix}
+use Rattle.blocks.specs.Blocks.{rowsOf}
+use borrow.Author.Tests.{not-true, not-false}
+use lib.ListN.{length}
+use lib.Dec.{eqb}
+use Prim.Native.Nat.{ℕ, suc, _+_}
+use mathlib.Core.List.{List, [], _∷_}
+use mathlib.Core.Bool.{not}
+use mathlib.Core.Path.{sym, ap, _∙_}
+use native.Mathlib.Omega.{arith}
+use borrow.Author.Needs.{needs}
+use Rattle.bordered.proofs.checks.verifies_bordered_decomposition.Statement.{statement}
+use Rattle.bordered.proofs.checks.verifies_bordered_decomposition.Tie as tie
+
+length-of-requires : tie.Need-length-of-requires
+length-of-requires c κs = search needs
+
+one-more-requires : tie.Need-one-more-requires
+one-more-requires c κs = search needs
+
+returns : tie.Need-returns
+returns c =
+    let s = c .before .before .before .args in
+    let n = qubits (s .a) in
+    let F = matrix (s .a) in
+    let vs = rowsOf (s .vectors) in
+    let A = eqb (length vs) (suc (s .r)) in
+    let B = allOf (λ v. not (eqb v 0)) vs in
+    let D = fitAll (n + n) vs in
+    let G = sameRows (product n vs) F in
+    chain-stops [] A (chain (B ∷ D ∷ []) G) tt (sym (c .before .one-more .ensures ∙ ap (λ (m : ℕ). eqb m (suc (s .r))) (c .before .before .length-of .ensures)) ∙ not-true (c .before .one-more .result) (c .if1 .taken)) ∙ list-tests n F (s .r) vs
+
+none-zero-requires : tie.Need-none-zero-requires
+none-zero-requires c κs = search needs
+
+returns-2 : tie.Need-returns-2
+returns-2 c =
+    let s = c .before .before .before .before .before .args in
+    let n = qubits (s .a) in
+    let F = matrix (s .a) in
+    let vs = rowsOf (s .vectors) in
+    let A = eqb (length vs) (suc (s .r)) in
+    let B = allOf (λ v. not (eqb v 0)) vs in
+    let D = fitAll (n + n) vs in
+    let G = sameRows (product n vs) F in
+    chain-stops (A ∷ []) B (chain (D ∷ []) G) (sym (c .before .before .before .one-more .ensures ∙ ap (λ (m : ℕ). eqb m (suc (s .r))) (c .before .before .before .before .length-of .ensures)) ∙ not-false (c .before .before .before .one-more .result) (c .before .before .if1 .left), tt) (sym (c .before .none-zero .ensures) ∙ not-true (c .before .none-zero .result) (c .if2 .taken)) ∙ list-tests n F (s .r) vs
+
+width-requires : tie.Need-width-requires
+width-requires c κs = search needs
+
+add-fit-all : tie.Need-add-fit-all
+add-fit-all c = omega (arith, qubits-le (c .before .before .before .before .before .before .args .a), c .width .ensures)
+
+fit-all-requires : tie.Need-fit-all-requires
+fit-all-requires c κs = search needs
+
+returns-3 : tie.Need-returns-3
+returns-3 c =
+    let s = c .before .before .before .before .before .before .before .before .args in
+    let n = qubits (s .a) in
+    let F = matrix (s .a) in
+    let vs = rowsOf (s .vectors) in
+    let A = eqb (length vs) (suc (s .r)) in
+    let B = allOf (λ v. not (eqb v 0)) vs in
+    let D = fitAll (n + n) vs in
+    let G = sameRows (product n vs) F in
+    chain-stops (A ∷ B ∷ []) D G (sym (c .before .before .before .before .before .before .one-more .ensures ∙ ap (λ (m : ℕ). eqb m (suc (s .r))) (c .before .before .before .before .before .before .before .length-of .ensures)) ∙ not-false (c .before .before .before .before .before .before .one-more .result) (c .before .before .before .before .before .if1 .left), (sym (c .before .before .before .before .none-zero .ensures) ∙ not-false (c .before .before .before .before .none-zero .result) (c .before .before .before .if2 .left), tt)) (sym (c .before .fit-all .ensures ∙ ap (λ (m : ℕ). fitAll (m + m) vs) (c .before .before .width .ensures)) ∙ not-true (c .before .fit-all .result) (c .if3 .taken)) ∙ list-tests n F (s .r) vs
+
+product-of-requires : tie.Need-product-of-requires
+product-of-requires c κs = search needs
+
+same-rows-requires : tie.Need-same-rows-requires
+unfolding qubits
+same-rows-requires c κs = c .product-of .ensures .0
+
+returns-4 : tie.Need-returns-4
+unfolding qubits
+returns-4 c =
+    let s = c .before .before .before .before .before .before .before .before .before .before .args in
+    let n = qubits (s .a) in
+    let F = matrix (s .a) in
+    let vs = rowsOf (s .vectors) in
+    let A = eqb (length vs) (suc (s .r)) in
+    let B = allOf (λ v. not (eqb v 0)) vs in
+    let D = fitAll (n + n) vs in
+    let G = sameRows (product n vs) F in
+    chain-left (A ∷ B ∷ D ∷ []) G (c .same-rows .result) (sym (c .before .before .before .before .before .before .before .before .one-more .ensures ∙ ap (λ (m : ℕ). eqb m (suc (s .r))) (c .before .before .before .before .before .before .before .before .before .length-of .ensures)) ∙ not-false (c .before .before .before .before .before .before .before .before .one-more .result) (c .before .before .before .before .before .before .before .if1 .left), (sym (c .before .before .before .before .before .before .none-zero .ensures) ∙ not-false (c .before .before .before .before .before .before .none-zero .result) (c .before .before .before .before .before .if2 .left), (sym (c .before .before .before .fit-all .ensures ∙ ap (λ (m : ℕ). fitAll (m + m) vs) (c .before .before .before .before .width .ensures)) ∙ not-false (c .before .before .before .fit-all .result) (c .before .before .if3 .left), tt))) (c .same-rows .ensures ∙ ap (λ (P : List ℕ). sameRows P F) (c .before .product-of .ensures .1)) ∙ list-tests n F (s .r) vs
+
+pub verifies-bordered-decomposition-spec : {M : Type 1} → statement M
+verifies-bordered-decomposition-spec =
+    tie.close
+    (tie.spec
+    length-of-requires
+    one-more-requires
+    returns
+    none-zero-requires
+    returns-2
+    width-requires
+    add-fit-all
+    fit-all-requires
+    returns-3
+    product-of-requires
+    same-rows-requires
+    returns-4)

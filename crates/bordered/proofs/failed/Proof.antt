@@ -1,0 +1,21 @@
+-- `failed` lists nothing.
+-- Assumes nothing.
+use Rattle.bordered.specs.Readings.{listedOf}
+use mathlib.Core.Path.{refl}
+use borrow.Author.Needs.{needs}
+use Rattle.bordered.proofs.failed.Statement.{statement}
+use Rattle.bordered.proofs.failed.Tie as tie
+
+empty-requires : tie.Need-empty-requires
+empty-requires c κs = search needs
+
+returns : tie.Need-returns
+unfolding listedOf
+returns c = refl
+
+pub failed-spec : {M : Type 1} → statement M
+failed-spec =
+    tie.close
+    (tie.spec
+    empty-requires
+    returns)

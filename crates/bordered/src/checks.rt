@@ -1,0 +1,187 @@
+// The two checks of a bordered candidate: `validate` of the family, and `verifies_bordered_decomposition` of its list.
+use binar::Row;
+use blocks::Block;
+use family::Family;
+use symplectic::Action;
+ghost use mathlib.Core.Path.{_≡_};
+ghost use mathlib.Core.Bool.{false, _&&_, not};
+ghost use Prim.Native.Nat.{ℕ, suc, _<_};
+ghost use lib.Dec.{eqb, leb};
+ghost use lib.ListN.{length, getD};
+ghost use Rattle.binar.specs.Rows.{val};
+ghost use Rattle.blocks.specs.Blocks.{rowsOf};
+ghost use Rattle.symplectic.specs.Turns.{allOf, product};
+ghost use Rattle.symplectic.specs.Actions.{capped, qubits, matrix};
+ghost use Rattle.symplectic.specs.Replies.{fitAll};
+ghost use Rattle.reduction.specs.Residue.{form};
+ghost use Rattle.family.specs.Readings.{listOf};
+ghost use Rattle.bordered.specs.Checks.{oddRelation, relationSum, borderedForm, unitLower, validate as validateOf, sameRows, verifiesBordered};
+ghost use Rattle.bordered.specs.Readings.{rowLower};
+
+// Whether each row has only columns below m.
+fn fit_all(m: usize, b: Block) -> bool
+    ensures { λ r. ⌜ r ≡ fitAll m (rowsOf b) ⌝ }
+{
+    let k = blocks::length_of(b);
+    for i in 0..k {
+        if !binar::fits(blocks::get(b, i), m) {
+            return false;
+        }
+    }
+    true
+}
+
+fn none_zero(b: Block) -> bool
+    ensures { λ r. ⌜ r ≡ allOf (λ (v : ℕ). not (eqb v 0)) (rowsOf b) ⌝ }
+{
+    let k = blocks::length_of(b);
+    for i in 0..k {
+        if binar::is_zero(blocks::get(b, i)) {
+            return false;
+        }
+    }
+    true
+}
+
+// Whether k is one more than r.
+fn one_more(k: usize, r: usize) -> bool
+    ensures { λ x. ⌜ x ≡ eqb k (suc r) ⌝ }
+{
+    if r < k { k - r == 1 } else { false }
+}
+
+// Whether an odd number of vectors is in the relation.
+fn odd_relation(f: Family) -> bool
+    ensures { λ r. ⌜ r ≡ oddRelation (listOf f) ⌝ }
+{
+    let k = blocks::length_of(f.vectors);
+    if f.peeled < k {
+        (k - f.peeled) % 2 == 1
+    } else {
+        false
+    }
+}
+
+fn both_related(peeled: usize, i: usize, j: usize) -> bool
+    ensures { λ r. ⌜ r ≡ leb peeled i && leb peeled j ⌝ }
+{
+    if i < peeled { false } else { peeled <= j }
+}
+
+// The Gram entry of vectors i and j, plus one where both are in the relation.
+fn gram(core: Block, f: Family, i: usize, j: usize) -> bool
+    requires { ⌜ (i < length (rowsOf (f .vectors))) × (j < length (rowsOf (f .vectors))) ⌝ }
+    ensures { λ r. ⌜ r ≡ borderedForm (form (rowsOf core)) (getD (listOf f) i (0, false)) (getD (listOf f) j (0, false)) ⌝ }
+{
+    let row = blocks::times(blocks::get(f.vectors, i), core);
+    let entry = binar::dot(row, blocks::get(f.vectors, j));
+    let both = both_related(f.peeled, i, j);
+    entry != both
+}
+
+// Whether row i has a one on the diagonal, and none behind it.
+fn lower_row(core: Block, f: Family, i: usize) -> bool
+    requires { ⌜ i < length (rowsOf (f .vectors)) ⌝ }
+    ensures { λ r. ⌜ r ≡ rowLower (form (rowsOf core)) (listOf f) i ⌝ }
+{
+    if !gram(core, f, i, i) {
+        return false;
+    }
+    let k = blocks::length_of(f.vectors);
+    for j in i + 1..k {
+        if gram(core, f, i, j) {
+            return false;
+        }
+    }
+    true
+}
+
+fn unit_lower(core: Block, f: Family) -> bool
+    ensures { λ r. ⌜ r ≡ unitLower (form (rowsOf core)) (listOf f) ⌝ }
+{
+    let k = blocks::length_of(f.vectors);
+    for i in 0..k {
+        if !lower_row(core, f, i) {
+            return false;
+        }
+    }
+    true
+}
+
+// The sum of the vectors in the relation.
+fn relation_sum(f: Family) -> Row
+    ensures { λ r. ⌜ val r ≡ relationSum (listOf f) ⌝ }
+{
+    let k = blocks::length_of(f.vectors);
+    let mut w = binar::zero();
+    for i in f.peeled..k {
+        w = binar::sum(w, blocks::get(f.vectors, i));
+    }
+    w
+}
+
+// Whether a family on a core of rank r is valid.
+pub fn validate(r: usize, core: Block, f: Family) -> bool
+    ensures { λ x. ⌜ x ≡ validateOf r (form (rowsOf core)) (listOf f) ⌝ }
+{
+    let vectors = f.vectors;
+    if !fit_all(r, vectors) {
+        return false;
+    }
+    if !one_more(blocks::length_of(vectors), r) {
+        return false;
+    }
+    if !odd_relation(f) {
+        return false;
+    }
+    if !unit_lower(core, f) {
+        return false;
+    }
+    if !binar::is_zero(relation_sum(f)) {
+        return false;
+    }
+    reduction::rank(r, vectors) == r
+}
+
+// The product of the rows of a block.
+fn product_of(n: u64, b: Block) -> Action
+    ensures { λ r. ⌜ (qubits r ≡ capped n) × (matrix r ≡ product (capped n) (rowsOf b)) ⌝ }
+{
+    let k = blocks::length_of(b);
+    let mut a = symplectic::identity(n);
+    for i in 0..k {
+        a = symplectic::followed(a, blocks::get(b, i));
+    }
+    a
+}
+
+fn same_rows(a: Action, b: Action) -> bool
+    requires { ⌜ qubits a ≡ qubits b ⌝ }
+    ensures { λ r. ⌜ r ≡ sameRows (matrix a) (matrix b) ⌝ }
+{
+    let n = symplectic::width(a);
+    let k = n + n;
+    for i in 0..k {
+        if !binar::equal(a.rows[i], b.rows[i]) {
+            return false;
+        }
+    }
+    true
+}
+
+// Whether the vectors of a bordered list are r + 1, none zero, none out of width, with the action for their product.
+pub fn verifies_bordered_decomposition(a: Action, r: usize, vectors: Block) -> bool
+    ensures { λ x. ⌜ x ≡ verifiesBordered (qubits a) (matrix a) r (rowsOf vectors) ⌝ }
+{
+    if !one_more(blocks::length_of(vectors), r) {
+        return false;
+    }
+    if !none_zero(vectors) {
+        return false;
+    }
+    let n = symplectic::width(a);
+    if !fit_all(n + n, vectors) {
+        return false;
+    }
+    same_rows(product_of(a.n, vectors), a)
+}

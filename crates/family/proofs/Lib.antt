@@ -1,0 +1,4 @@
+pub mod Members
+pub mod Others
+pub mod Simplices
+pub mod Peeling

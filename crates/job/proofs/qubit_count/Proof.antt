@@ -1,0 +1,16 @@
+-- `qubit_count` reads bytes 0 and 1.
+-- Assumes nothing.
+use borrow.Author.Needs.{needs}
+use Rattle.job.specs.Files.{qubitCount}
+use Rattle.job.proofs.qubit_count.Statement.{statement}
+use Rattle.job.proofs.qubit_count.Tie as tie
+
+number-requires : tie.Need-number-requires
+number-requires c κs = search needs
+
+returns : tie.Need-returns
+unfolding qubitCount
+returns c = search needs
+
+pub qubit-count-spec : {M : Type 1} → statement M
+qubit-count-spec = tie.close (tie.spec number-requires returns)
