@@ -12,7 +12,7 @@ use Rattle.blocks.specs.Words.{rowsOfWords, wordsOfRows}
 use Rattle.blocks.proofs.Values.{laid-fits}
 use Rattle.symplectic.specs.Replies.{Reply, refused, listed}
 use Rattle.bordered.specs.Checks.{borderedList}
-use Rattle.transvection_exact.proofs.Minimal.{Shortest}
+use Rattle.transvection_exact.proofs.Least.{Shortest}
 
 -- asked: the number of the questions 1 to 5; looks: those of the search without a budget
 pub data Ends (n : ℕ) (F : List ℕ) (asked budget looks : ℕ) (out : List ℕ) (r : Reply) : Type 0 where

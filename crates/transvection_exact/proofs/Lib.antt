@@ -1,4 +1,6 @@
 pub mod Lengths
-pub mod Minimal
+pub mod Least
 pub mod Ends
 pub mod Replies
+pub mod Answered
+pub mod Outcomes

@@ -21,7 +21,7 @@ use Rattle.bordered.specs.Checks.{borderedList}
 use Rattle.bordered.proofs.Verified.{Passed, bordered-passed}
 use Rattle.transvection_exact.specs.Shortest.{NoneShorter}
 use Rattle.transvection_exact.specs.Minimal.{coreSearch, borderedReply, endedReply, searchedReply, minimalReply}
-use Rattle.transvection_exact.proofs.Minimal.{Least, least-of-search, found-shortest, bordered-shortest}
+use Rattle.transvection_exact.proofs.Least.{Least, least-of-search, found-shortest, bordered-shortest}
 use Rattle.transvection_exact.proofs.Ends.{Ends, early, beyond, unbordered, answered, Answer, answer, count-is, looks-are, taken-is, rest-is, left-of, spent-of, of-spent, unbordered-of, early-of, small-of}
 
 -- ---- the questions before the search have numbers up to 5

@@ -1,2 +1,3 @@
 pub mod Minimal
 pub mod Shortest
+pub mod Answers
