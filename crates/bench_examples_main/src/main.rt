@@ -1,4 +1,4 @@
-// Runs bench examples of the calls that are not starred. A line says the call, its number and its count, and for gates the rows written.
+// Runs bench examples of the calls that are not starred. A line says the call, its number and its count, and for gates the rows written; for minimal lists also the looks.
 use libc::STDOUT_FILENO;
 use replays::Answer;
 
@@ -47,6 +47,33 @@ fn gates(name: &[u8], bytes: &[u8]) {
     io::write_all(STDOUT_FILENO, b"\n");
 }
 
+// The minimal list of an action on 2 qubits.
+fn minimal(name: &[u8], rows: &[u64], budget: u64, out: &mut [u64]) {
+    let a = replays::min_answer(2, rows, budget, out);
+    print_answer(name, a);
+    io::write_all(STDOUT_FILENO, b" ");
+    io::print_decimal(STDOUT_FILENO, a.looks);
+    if a.number == 0 {
+        print_rows(out);
+    }
+    io::write_all(STDOUT_FILENO, b"\n");
+}
+
+// Minimal lists: 4 words are too few on 2 qubits and 5 are enough; the smallest action on which the paper's test is wrong needs r + 1 turns.
+fn minimals() {
+    let mut four = [0u64; 4];
+    minimal(b"minimal 2, SWAP, 4 words", &[2, 1, 8, 4], 0, &mut four);
+    let mut five = [0u64; 5];
+    minimal(b"minimal 2, SWAP, 5 words", &[2, 1, 8, 4], 0, &mut five);
+    let mut words = [0u64; 5];
+    minimal(
+        b"minimal 2, rows 1 3 c b",
+        &[1, 3, 12, 11],
+        1000000,
+        &mut words,
+    );
+}
+
 fn main() {
     rebuild_empty(b"rebuild 32", 32);
     rebuild_empty(b"rebuild 33", 33);
@@ -58,4 +85,5 @@ fn main() {
     gates(b"gates 2, CX 1 1", &[3, 1, 1]);
     gates(b"gates 2, SWAP 0 1 and 2 bytes more", &[5, 0, 1, 9, 9]);
     gates(b"gates 2, 2 bytes", &[9, 9]);
+    minimals();
 }

@@ -6,6 +6,7 @@ use gates::GateAction;
 use rebuild::Rebuilt;
 pub use tally::run;
 use transvection::Listing;
+use transvection_exact::Minimal;
 ghost use mathlib.Core.Path.{_≡_};
 ghost use mathlib.Core.Bool.{true};
 ghost use Prim.Native.Nat.{_≤_, _<_};
@@ -15,6 +16,8 @@ ghost use Rattle.rebuild.specs.Rebuilds.{rebuildReply};
 ghost use Rattle.rebuild.specs.Answers.{told as toldRebuilt};
 ghost use Rattle.transvection.specs.Greedy.{greedyReply};
 ghost use Rattle.transvection.specs.Answers.{told as toldListing};
+ghost use Rattle.transvection_exact.specs.Minimal.{minimalReply};
+ghost use Rattle.transvection_exact.specs.Answers.{told as toldMinimal};
 ghost use Rattle.gates.specs.Sequences.{gatesReply};
 ghost use Rattle.gates.specs.Answers.{told as toldGates};
 ghost use Rattle.replays.specs.Answers.{toldBy, Alike, HasRoom};
@@ -23,6 +26,8 @@ ghost use Rattle.replays.specs.Answers.{toldBy, Alike, HasRoom};
 const FILL: u64 = 0xa5a5a5a5a5a5a5a5;
 
 // The kinds of calls.
+const MIN: u64 = 0;
+
 const GREEDY: u64 = 1;
 
 const REBUILD: u64 = 2;
@@ -99,6 +104,29 @@ pub fn greedy_answer(n: u64, rows: &[u64], out: &mut [u64]) -> Answer
     of_listing(r)
 }
 
+fn of_minimal(r: Minimal) -> Answer
+    ensures { λ a. ⌜ toldBy a ≡ toldMinimal r ⌝ }
+{
+    match r {
+        Minimal::Listed { count, looks } => told(0, count, looks),
+        Minimal::TooManyQubits => told(1, 0, 0),
+        Minimal::WrongRowCount => told(2, 0, 0),
+        Minimal::RowTooWide => told(3, 0, 0),
+        Minimal::NotSymplectic => told(4, 0, 0),
+        Minimal::OutputTooShort => told(5, 0, 0),
+        Minimal::Spent { looks } => told(6, 0, looks),
+        Minimal::NotBordered { looks } => told(7, 0, looks),
+    }
+}
+
+pub fn min_answer(n: u64, rows: &[u64], budget: u64, out: &mut [u64]) -> Answer
+    ensures answered { λ a. ⌜ toldBy a ≡ toldOf (minimalReply n (now (rows .entry)) budget (now (out .entry))) ⌝ }
+    ensures left { λ a. ⌜ now (out .exit) ≡ minimalReply n (now (rows .entry)) budget (now (out .entry)) .words ⌝ }
+{
+    let r = transvection_exact::clifford_to_transvections_minimal(n, rows, budget, out);
+    of_minimal(r)
+}
+
 fn of_gates(r: GateAction) -> Answer
     ensures { λ a. ⌜ toldBy a ≡ toldGates r ⌝ }
 {
@@ -143,13 +171,16 @@ fn gate_words(n: u64, words: &[u64], out: &mut [u64]) -> Answer
 fn known(kind: u64) -> bool
     ensures { λ r. ⌜ (r ≡ true → kind < 4) ⌝ }
 {
-    0 < kind && kind < 4
+    kind < 4
 }
 
 // The call of a known kind.
 fn call(c: Case, lent: &[u64], out: &mut [u64]) -> Answer
     requires { ⌜ length (now lent) ≤ 320 ⌝ }
 {
+    if c.kind == MIN {
+        return min_answer(c.n, lent, c.budget, out);
+    }
     if c.kind == GREEDY {
         return greedy_answer(c.n, lent, out);
     }

@@ -113,6 +113,7 @@ fn print_kind(name: &[u8], agree: u64, differ: u64) {
 }
 
 fn print_tally(t: Tally) {
+    print_kind(b"min ", t.agree[0], t.differ[0]);
     print_kind(b"greedy ", t.agree[1], t.differ[1]);
     print_kind(b"rebuild ", t.agree[2], t.differ[2]);
     print_kind(b"gates ", t.agree[3], t.differ[3]);

@@ -43,7 +43,7 @@ module _ (n : ℕ) (rows : List ℕ) (budget : ℕ) (out : List ℕ) where
           l,
           (
             λ z. ap (λ (k : ℕ). product n (take k (rowsOfWords left))) count
-            ∙ ap (λ (m : List ℕ). product n (take (reply .count) (rowsOfWords m))) l ∙ answered-product n rows budget out (sym number ∙ z),
+                ∙ ap (λ (m : List ℕ). product n (take (reply .count) (rowsOfWords m))) l ∙ answered-product n rows budget out (sym number ∙ z),
             (
               λ z. subst (NoneShorter n (rowsOfWords rows)) (sym count) (answered-shortest n rows budget out (sym number ∙ z)),
               (

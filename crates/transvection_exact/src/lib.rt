@@ -65,7 +65,12 @@ fn searched(a: Action, budget: u64, out: &mut [u64]) -> Minimal
 }
 
 // A list of turns whose product is the lent action, and no list of it is shorter.
-pub fn clifford_to_transvections_minimal(n: u64, rows: &[u64], budget: u64, out: &mut [u64]) -> Minimal
+pub fn clifford_to_transvections_minimal(
+    n: u64,
+    rows: &[u64],
+    budget: u64,
+    out: &mut [u64],
+) -> Minimal
     ensures answered { λ r. ⌜ told r ≡ toldOf (minimalReply n (now (rows .entry)) budget (now (out .entry))) ⌝ }
     ensures left { λ r. ⌜ now (out .exit) ≡ minimalReply n (now (rows .entry)) budget (now (out .entry)) .words ⌝ }
     ensures replays { λ r. ⌜ Replays n (now (rows .entry)) (now (out .exit)) r ⌝ }
