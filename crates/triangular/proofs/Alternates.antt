@@ -1,14 +1,13 @@
 -- The test for an alternating form: by indices, as a loop takes it, and what it says of the span.
 -- Assumes nothing.
-use mathlib.Core.Path.{_≡_, refl, sym, ap, ap₂, _∙_, subst}
+use mathlib.Core.Path.{_≡_, refl, sym, ap, ap₂, _∙_}
 use mathlib.Core.Bool.{Bool, true, false, true≢false, false≢true, _&&_, not, Bool·beq, and-eq-true-iff}
 use mathlib.Core.List.{List, [], _∷_, _++_}
-use Prim.Native.Nat.{ℕ, zero, suc, _+_, _≤_, _<_, suc-le-suc}
-use native.Mathlib.Nat.{not-suc-le-zero, le-of-suc-le-suc, zero-lt-suc}
+use Prim.Native.Nat.{ℕ, zero, suc, _+_, _<_}
+use native.Mathlib.Nat.{not-suc-le-zero, le-of-suc-le-suc}
 use native.Mathlib.Numerals.{add-one}
 use lib.ListN.{length, take, getD}
-use lib.Seq.{take-suc, getD-take, length-take-le}
-use native.Mathlib.Omega.{arith}
+use lib.Seq.{take-suc}
 use borrow.Author.Tests.{not-true}
 use Rattle.binar.specs.Bits.{_⊻_, select, _⊕_}
 use Rattle.binar.proofs.Sums.{bxor-assoc, bxor-comm, bxor-self}
@@ -59,12 +58,12 @@ module _ (E : ℕ → ℕ → Bool) where
   symmetric-at b (y ∷ ys) zero e h = symmetric-parts b y ys e .0
   symmetric-at b (y ∷ ys) (suc j) e h = symmetric-at b ys j (symmetric-parts b y ys e .1) (le-of-suc-le-suc h)
 
-  pub alternating-diagonal : (bs : List ℕ) (i : ℕ) → isAlternating E bs ≡ true → i < length bs → E (getD bs i 0) (getD bs i 0) ≡ false
+  alternating-diagonal : (bs : List ℕ) (i : ℕ) → isAlternating E bs ≡ true → i < length bs → E (getD bs i 0) (getD bs i 0) ≡ false
   alternating-diagonal [] i e h = absurd (not-suc-le-zero h)
   alternating-diagonal (b ∷ bs) zero e h = alternating-parts b bs e .0
   alternating-diagonal (b ∷ bs) (suc i) e h = alternating-diagonal bs i (alternating-parts b bs e .2) (le-of-suc-le-suc h)
 
-  pub alternating-pair : (bs : List ℕ) (i j : ℕ) → isAlternating E bs ≡ true → i < length bs → j < length bs
+  alternating-pair : (bs : List ℕ) (i j : ℕ) → isAlternating E bs ≡ true → i < length bs → j < length bs
       → E (getD bs i 0) (getD bs j 0) ≡ E (getD bs j 0) (getD bs i 0)
   alternating-pair [] i j e h k = absurd (not-suc-le-zero h)
   alternating-pair (b ∷ bs) zero zero e h k = refl
@@ -72,12 +71,6 @@ module _ (E : ℕ → ℕ → Bool) where
   alternating-pair (b ∷ bs) (suc i) zero e h k = sym (symmetric-at b bs i (alternating-parts b bs e .1) (le-of-suc-le-suc h))
   alternating-pair (b ∷ bs) (suc i) (suc j) e h k =
       alternating-pair bs i j (alternating-parts b bs e .2) (le-of-suc-le-suc h) (le-of-suc-le-suc k)
-
-  symmetric-all : (b : ℕ) (ys : List ℕ) → ((j : ℕ) → j < length ys → E b (getD ys j 0) ≡ E (getD ys j 0) b) → symmetricWith E b ys ≡ true
-  unfolding symmetricWith
-  symmetric-all b [] h = refl
-  symmetric-all b (y ∷ ys) h =
-      symmetric-cons b y ys (h zero (zero-lt-suc (length ys))) (symmetric-all b ys (λ j l. h (suc j) (suc-le-suc l)))
 
   -- one failure
   refuted : (b : Bool) → (b ≡ true → ⊥) → b ≡ false
@@ -87,25 +80,9 @@ module _ (E : ℕ → ℕ → Bool) where
   pub fails-diagonal : (bs : List ℕ) (i : ℕ) → i < length bs → E (getD bs i 0) (getD bs i 0) ≡ true → isAlternating E bs ≡ false
   fails-diagonal bs i h e = refuted (isAlternating E bs) (λ a. true≢false (sym e ∙ alternating-diagonal bs i a h))
 
-  pub fails-symmetric : (b : ℕ) (bs : List ℕ) (i j : ℕ) → j < i → i ≤ length bs
-      → (E b (getD bs j 0) ≡ E (getD bs j 0) b → ⊥) → symmetricWith E b (take i bs) ≡ false
-  fails-symmetric b bs i j h k differ =
-      let e : getD (take i bs) j 0 ≡ getD bs j 0 = getD-take i bs j 0 h in
-      refuted (symmetricWith E b (take i bs))
-      (λ a. differ (subst (λ y. E b y ≡ E y b) e (symmetric-at b (take i bs) j a (subst (λ n. j < n) (sym (length-take-le i bs k)) h))))
-
-  -- member i fails with those before it
-  pub fails-with : (bs : List ℕ) (i : ℕ) → i < length bs → symmetricWith E (getD bs i 0) (take i bs) ≡ false → isAlternating E bs ≡ false
-  fails-with bs i h e =
-      refuted (isAlternating E bs)
-      (λ a. true≢false (sym (symmetric-all (getD bs i 0) (take i bs) (λ j l. pair a j (subst (λ n. j < n) size l))) ∙ e))
-    where
-      size : length (take i bs) ≡ i
-      size = length-take-le i bs (omega arith)
-
-      pair : isAlternating E bs ≡ true → (j : ℕ) → j < i → E (getD bs i 0) (getD (take i bs) j 0) ≡ E (getD (take i bs) j 0) (getD bs i 0)
-      pair a j l =
-          subst (λ y. E (getD bs i 0) y ≡ E y (getD bs i 0)) (sym (getD-take i bs j 0 l)) (alternating-pair bs i j a h (omega arith))
+  pub fails-pair : (bs : List ℕ) (i j : ℕ) → i < length bs → j < length bs
+      → (E (getD bs i 0) (getD bs j 0) ≡ E (getD bs j 0) (getD bs i 0) → ⊥) → isAlternating E bs ≡ false
+  fails-pair bs i j h k differ = refuted (isAlternating E bs) (λ a. differ (alternating-pair bs i j a h k))
 
   -- none: the members before i have passed, and member i with those before j
   symmetric-snoc : (b : ℕ) (ys : List ℕ) (y : ℕ) → symmetricWith E b ys ≡ true → E b y ≡ E y b → symmetricWith E b (ys ++ (y ∷ [])) ≡ true

@@ -1,6 +1,7 @@
 -- The search under a budget, as two functions that call each other take it: one tries a space, draw by draw, the other what one draw passes on; what is found is built on the way back.
 -- Assumes nothing.
 use mathlib.Core.Path.{_≡_, refl, sym, ap, ap₂, _∙_, subst}
+use mathlib.Core.Logic.{_⊎_, ⊎-elim}
 use mathlib.Core.Bool.{Bool, true, false}
 use mathlib.Core.List.{List, [], _∷_, _++_, reverse, reverse-append}
 use Prim.Native.Nat.{ℕ, zero, suc, _+_, _-_, _^_, _≤_, _<_}
@@ -92,15 +93,18 @@ module _ (budget p : ℕ) (out : Outcome) where
       sym (ends budget (found (p ∷ l) k) (subst (λ o. looksOf o ≤ budget) (sym (f .0)) (f .1))) ∙ ap (λ o. budgeted budget (afterRest p failed o)) (f .0)
 
   module _ (v : Ending) (k : ℕ) (l : List ℕ) (ens : verdictOf v k l ≡ budgeted budget out) where
-    pub rest-failed : v ≡ Failed → verdictOf v k l ≡ budgeted budget (afterRest p failed out)
+    rest-failed : v ≡ Failed → verdictOf v k l ≡ budgeted budget (afterRest p failed out)
     rest-failed is =
         let f = of-ended budget out (failed k) (sym (says-failed v k l is) ∙ ens) in ens ∙ ap (budgeted budget) (sym (f .0) ∙ ap (afterRest p failed) (f .0))
 
-    pub rest-spent : v ≡ Spent → verdictOf v k l ≡ budgeted budget (afterRest p failed out)
+    rest-spent : v ≡ Spent → verdictOf v k l ≡ budgeted budget (afterRest p failed out)
     rest-spent is =
         let e = says-spent v k l is in
         let f = of-spent budget out k (sym e ∙ ens) in
         e ∙ ap spent (f .0) ∙ sym (spends budget (afterRest p failed out) (lt-of-lt-of-le (f .1) (after-up p failed le-refl out)))
+
+    pub rest-kept : (v ≡ Failed) ⊎ (v ≡ Spent) → verdictOf v k l ≡ budgeted budget (afterRest p failed out)
+    rest-kept is = ⊎-elim rest-failed rest-spent is
 
 -- what was found fits a block with p behind it
 module _ (E : Form 𝕎) (budget looks p d : ℕ) (bs : List ℕ) (size : length bs ≡ d) (fits : d < 65) where
@@ -210,11 +214,14 @@ module _ (E : ℕ → ℕ → Bool) (budget looks : ℕ) (bs : List ℕ) (d last
         -- what the draw came to
         module _ (v : Ending) (k : ℕ) (l : List ℕ)
             (ens : verdictOf v k l ≡ budgeted budget (afterRest p failed (search E d (complement (E p) bs) (looks + 1)))) where
-          pub at-found : v ≡ Found → verdictOf v k l ≡ A
+          at-found : v ≡ Found → verdictOf v k l ≡ A
           at-found is = let e = says-found v k l is in e ∙ or-found budget next out l k (sym e ∙ ens) ∙ taken
 
-          pub at-spent : v ≡ Spent → verdictOf v k l ≡ A
+          at-spent : v ≡ Spent → verdictOf v k l ≡ A
           at-spent is = let e = says-spent v k l is in e ∙ or-spent budget next out next-up k (sym e ∙ ens) ∙ taken
+
+          pub at-kept : (v ≡ Found) ⊎ (v ≡ Spent) → verdictOf v k l ≡ A
+          at-kept is = ⊎-elim at-found at-spent is
 
           -- failed: the other draws follow, from its looks on
           pub at-failed : v ≡ Failed → budgeted budget (draws E (search E d) bs (last - (c + 1)) (c + 1 + 1) k) ≡ A

@@ -2,7 +2,7 @@
 -- Assumes nothing.
 use mathlib.Core.Path.{_≡_, refl, sym, ap, ap₂, _∙_, subst}
 use mathlib.Core.Logic.{⊎-elim}
-use mathlib.Core.Bool.{true}
+use mathlib.Core.Bool.{true, false}
 use mathlib.Core.List.{List}
 use Prim.Native.Nat.{ℕ, zero, suc, _+_, _-_, _*_, _%_, _^_, _≤_, _<_}
 use native.Mathlib.Nat.{one-mul, pow-suc, mod-eq-of-lt, eq-or-lt-of-le}
@@ -25,7 +25,7 @@ use Rattle.linear.specs.Span.{InSpan}
 use Rattle.linear.proofs.Instances.{𝕎}
 use Rattle.linear.proofs.Rows.{times-in}
 use Rattle.triangular.specs.Spaces.{complement}
-use Rattle.triangular.proofs.Complements.{complement-length}
+use Rattle.triangular.proofs.Complements.{complement-length, complement-none}
 
 -- the last coefficient
 pub ones-last : (d x : ℕ) → d ≤ 64 → x ≡ (2 ^ d - 1) % 2 ^ width → x ≡ 2 ^ d - 1
@@ -108,6 +108,13 @@ module _ (d last c x : ℕ) (fits : d ≤ 64) (last-is : last ≡ (2 ^ d - 1) % 
       ap₂ _⊕_ e (f ∙ ap (λ t. times (2 ^ suc t - 1) M) (l ∙ ap lowest next-is)) ∙ sym (times-sum M c (2 ^ suc (lowest (c + 1)) - 1))
       ∙ ap (λ t. times t M) (sym (next-flips c inside .1) ∙ sym next-is)
 
--- a drawn vector with a dot: its complement has a member less
-pub drawn-shorter : (f : ℕ) (B : List ℕ) (c p : ℕ) → p ≡ times c B → dot f p ≡ true → length B ≡ suc (length (complement (dot f) B))
-drawn-shorter f B c p e on = complement-length (dot f) (dot-sum f) B p on (subst (InSpan 𝕎 B) (sym e) (times-in c B))
+-- a drawn vector with a dot: some member has one too
+pub drawn-first : (f : ℕ) (B : List ℕ) (c p j : ℕ) → p ≡ times c B → dot f p ≡ true
+    → j ≤ length B → ((i : ℕ) → i < j → dot f (getD B i 0) ≡ false) → j < length B
+drawn-first f B c p j e on h before = ⊎-elim (λ q. absurd (omega (arith, shorter, ap length (none q)))) (λ l. l) (eq-or-lt-of-le h)
+  where
+    shorter : length B ≡ suc (length (complement (dot f) B))
+    shorter = complement-length (dot f) (dot-sum f) B p on (subst (InSpan 𝕎 B) (sym e) (times-in c B))
+
+    none : j ≡ length B → complement (dot f) B ≡ B
+    none q = complement-none (dot f) B (λ i l. before i (subst (λ n. i < n) (sym q) l))

@@ -4,14 +4,14 @@ use blocks::Block;
 ghost use mathlib.Core.Path.{_≡_};
 ghost use mathlib.Core.Bool.{true, false};
 ghost use mathlib.Core.List.{List, [], reverse};
-ghost use Prim.Native.Nat.{ℕ, suc, _-_, _^_, _≤_, _<_, min};
-ghost use lib.ListN.{length, getD, take};
+ghost use Prim.Native.Nat.{ℕ, suc, _-_, _^_, _≤_, _<_};
+ghost use lib.ListN.{length, getD};
 ghost use Rattle.binar.specs.Bits.{select, _⊕_, dot};
 ghost use Rattle.binar.specs.Rows.{val};
 ghost use Rattle.blocks.specs.Blocks.{vals, rowsOf};
 ghost use Rattle.blocks.specs.Matrices.{times, matmul, units};
 ghost use Rattle.reduction.specs.Residue.{form};
-ghost use Rattle.triangular.specs.Spaces.{complement, symmetricWith, isAlternating};
+ghost use Rattle.triangular.specs.Spaces.{complement, isAlternating};
 ghost use Rattle.triangular.specs.Search.{failed, afterRest, search, budgeted};
 ghost use Rattle.triangular.specs.Readings.{basisOf, formsOf, coreOf, verdictOf, seen, seenBack};
 
@@ -41,33 +41,26 @@ fn added(y: Row, m: Row, hit: bool) -> Row
     if hit { binar::sum(y, m) } else { y }
 }
 
-// Whether the form is symmetric on member i and each member before it.
-fn symmetric_with(s: Space, i: usize) -> bool
-    requires { ⌜ (i < s .count) × (s .count ≤ 64) ⌝ }
-    ensures { λ r. ⌜ ((E : List ℕ) → matmul (basisOf s) E ≡ formsOf s
-        → r ≡ symmetricWith (form E) (getD (basisOf s) i 0) (take i (basisOf s))) ⌝ }
-{
-    let b = s.basis[i];
-    let f = s.forms[i];
-    for j in 0..i {
-        if binar::dot(f, s.basis[j]) != binar::dot(s.forms[j], b) {
-            return false;
-        }
-    }
-    true
-}
-
+// Whether the form is alternating: each member is tested with those before it, then with itself.
 fn is_alternating(s: Space) -> bool
     requires { ⌜ s .count ≤ 64 ⌝ }
     ensures { λ r. ⌜ ((E : List ℕ) → matmul (basisOf s) E ≡ formsOf s → r ≡ isAlternating (form E) (basisOf s)) ⌝ }
 {
     let k = s.count;
-    for i in 0..k {
-        if binar::dot(s.forms[i], s.basis[i]) {
-            return false;
-        }
-        if !symmetric_with(s, i) {
-            return false;
+    let mut i: usize = 0;
+    let mut j: usize = 0;
+    while i < k {
+        if j < i {
+            if binar::dot(s.forms[i], s.basis[j]) != binar::dot(s.forms[j], s.basis[i]) {
+                return false;
+            }
+            j += 1;
+        } else {
+            if binar::dot(s.forms[i], s.basis[i]) {
+                return false;
+            }
+            i += 1;
+            j = 0;
         }
     }
     true
@@ -132,17 +125,19 @@ pub fn right_orthogonal_complement(s: Space, f: Row) -> Space
     if j < t.count { dropped(t, f, j) } else { t }
 }
 
-// Row i is the sum of rows 0 to i.
-fn sums(rows: [Row; 64], k: usize) -> [Row; 64]
-    requires { ⌜ (0 < k) × (k ≤ 64) ⌝ }
-    ensures { λ r. ⌜ ((i : ℕ) → i < k → getD (vals r) i 0 ≡ times (2 ^ suc i - 1) (take k (vals rows))) ⌝ }
+// Member i becomes the sum of members 0 to i, and its form row with it.
+fn sums(s: Space) -> Space
+    requires { ⌜ (0 < s .count) × (s .count ≤ 64) ⌝ }
+    ensures { λ r. ⌜ ((i : ℕ) → i < s .count → (getD (vals (r .basis)) i 0 ≡ times (2 ^ suc i - 1) (basisOf s))
+        × (getD (vals (r .forms)) i 0 ≡ times (2 ^ suc i - 1) (formsOf s))) ⌝ }
 {
-    let mut s = rows;
+    let mut t = s;
+    let k = t.count;
     for i in 1..k {
-        let x = s[i - 1];
-        s[i] = binar::sum(x, s[i]);
+        t.basis[i] = binar::sum(t.basis[i - 1], t.basis[i]);
+        t.forms[i] = binar::sum(t.forms[i - 1], t.forms[i]);
     }
-    s
+    t
 }
 
 // An ending with no list.
@@ -163,16 +158,11 @@ fn try_draw(s: Space, p: Row, f: Row, looks: u64, budget: u64) -> Searched
     ensures { λ r. ⌜ (r .looks ≤ budget) × ((E : List ℕ) → matmul (basisOf s) E ≡ formsOf s
         → seenBack r ≡ budgeted budget (afterRest (val p) failed (search (form E) (s .count - 1) (complement (form E (val p)) (basisOf s)) looks))) ⌝ }
 {
-    let rest = right_orthogonal_complement(s, f);
+    let j = first_dot(s, f);
+    let rest = dropped(s, f, j);
     let o = try_space(rest, looks, budget);
     let e = o.ending;
     match e {
-        Ending::Failed => {
-            return o;
-        }
-        Ending::Spent => {
-            return o;
-        }
         Ending::Found => {
             let l = o.list;
             return Searched {
@@ -180,6 +170,9 @@ fn try_draw(s: Space, p: Row, f: Row, looks: u64, budget: u64) -> Searched
                 looks: o.looks,
                 list: blocks::push(l, p),
             };
+        }
+        _ => {
+            return o;
         }
     }
 }
@@ -197,10 +190,7 @@ fn try_space(s: Space, looks: u64, budget: u64) -> Searched
     if is_alternating(s) {
         return bare(Ending::Failed, looks);
     }
-    let b = s.basis;
-    let g = s.forms;
-    let pb = sums(b, d);
-    let pf = sums(g, d);
+    let t = sums(s);
     let last = binar::low_ones(d);
     let mut c = binar::zero();
     let mut p = c;
@@ -213,8 +203,8 @@ fn try_space(s: Space, looks: u64, budget: u64) -> Searched
         }
         spent += 1;
         let k = binar::lowest(c);
-        p = binar::sum(p, pb[k]);
-        f = binar::sum(f, pf[k]);
+        p = binar::sum(p, t.basis[k]);
+        f = binar::sum(f, t.forms[k]);
         if binar::dot(f, p) {
             let o = try_draw(s, p, f, spent, budget);
             let e = o.ending;
@@ -222,10 +212,7 @@ fn try_space(s: Space, looks: u64, budget: u64) -> Searched
                 Ending::Failed => {
                     spent = o.looks;
                 }
-                Ending::Found => {
-                    return o;
-                }
-                Ending::Spent => {
+                _ => {
                     return o;
                 }
             }

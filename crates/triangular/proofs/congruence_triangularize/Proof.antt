@@ -3,7 +3,6 @@
 use mathlib.Core.Path.{sym, ap, ap₂, _∙_}
 use mathlib.Core.List.{List}
 use Prim.Native.Nat.{ℕ}
-use lib.ListN.{length}
 use Rattle.blocks.specs.Matrices.{matmul}
 use Rattle.blocks.proofs.Units.{matmul-units}
 use Rattle.reduction.specs.Residue.{form}
