@@ -1,0 +1,4 @@
+pub mod Reading
+pub mod Loading
+pub mod Calls
+pub mod Printing

@@ -1,0 +1,31 @@
+-- `refusal_line` prints a refusal whole, by `line-told`.
+-- Assumes nothing.
+use mathlib.Core.Path.{refl, _∙_}
+use mathlib.Core.List.{[]}
+use native.Mathlib.Omega.{arith}
+use borrow.Author.Needs.{needs}
+use Rattle.symplectic.specs.Replies.{refused}
+use Rattle.printout.proofs.Printing.{line-told}
+use Rattle.printout.proofs.refusal_line.Statement.{statement}
+use Rattle.printout.proofs.refusal_line.Tie as tie
+
+array-share-prefix-none : tie.Need-array-share-prefix-none
+array-share-prefix-none c = search needs
+
+slice-aggregate-entry-line : tie.Need-slice-aggregate-entry-line
+slice-aggregate-entry-line c = search needs
+
+entry-line-requires : tie.Need-entry-line-requires
+entry-line-requires c κs = search needs
+
+returns : tie.Need-returns
+unfolding refused
+returns c =
+    let s = c .before .before .args in
+    c .entry-line .ensures
+    ∙ line-told (s .n) (s .i) (s .which) (record { number = s .number; count = 0; looks = 0 }) [] (search needs) (search needs) (refused (s .number) 0 []) (search needs) 64 (omega arith) (omega arith) tt refl refl refl refl
+
+pub refusal-line-spec : {M : Type 1} → statement M
+refusal-line-spec =
+    tie.close
+    (tie.spec array-share-prefix-none slice-aggregate-entry-line entry-line-requires returns)
