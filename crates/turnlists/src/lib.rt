@@ -26,7 +26,7 @@ fn write_entries(file: &[u8], count: u64) {
     }
 }
 
-fn write_printout(file: &[u8]) {
+pub fn write_printout(file: &[u8]) {
     match job::file_questions(file) {
         FileAnswer::Passed => write_entries(file, job::entry_count(file)),
         FileAnswer::BadLength => write_line(lines::file_line(12)),
