@@ -2,3 +2,4 @@ pub mod Reading
 pub mod Loading
 pub mod Calls
 pub mod Printing
+pub mod Whole
