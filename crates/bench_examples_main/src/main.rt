@@ -1,8 +1,8 @@
 // Runs bench examples of the calls that are not starred. A line says the call, its number and its count, and for gates the rows written; for minimal lists also the looks.
 use libc::STDOUT_FILENO;
-use replays::Answer;
+use symplectic::Told;
 
-fn print_answer(name: &[u8], a: Answer) {
+fn print_answer(name: &[u8], a: Told) {
     io::write_all(STDOUT_FILENO, name);
     io::write_all(STDOUT_FILENO, b": ");
     io::print_decimal(STDOUT_FILENO, a.number);

@@ -178,6 +178,11 @@ laid-end (r ∷ rows) [] (suc k) e = absurd (omega arith)
 laid-end (r ∷ rows) (w ∷ out) zero e = absurd (omega arith)
 laid-end (r ∷ rows) (w ∷ out) (suc k) e = ap (λ (m : List ℕ). r ∷ m) (laid-end rows out k (omega arith))
 
+-- as many rows as were laid
+pub laid-front : (rows out : List ℕ) → length rows ≤ length out → take (length rows) (rowsOfWords (laid rows out)) ≡ rows
+unfolding rowsOfWords wordsOfRows
+laid-front rows out h = ap (take (length rows)) (laid-fits rows out h) ∙ take-at rows (drop (length rows) out) (length rows) refl
+
 -- exactly as many words as rows: the words are the rows
 pub laid-whole : (rows out : List ℕ) → length rows ≡ length out → rowsOfWords (laid rows out) ≡ rows
 unfolding rowsOfWords wordsOfRows

@@ -1,14 +1,9 @@
 -- What the answers of a gate sequence say: document 01's number, and how many rows stand in the lent words; and what the code's line of the sheet says.
 -- Assumes nothing.
-use mathlib.Core.Path.{_≡_}
-use mathlib.Core.List.{List}
 use Prim.Native.Nat.{ℕ}
 use lib.ListN.{take}
-use Rattle.blocks.specs.Words.{rowsOfWords}
-use Rattle.symplectic.specs.Turns.{product}
-use Rattle.symplectic.specs.Replies.{Told}
+use Rattle.symplectic.specs.declared.Told.{Told}
 use Rattle.gates.specs.Sheet.{Gate}
-use Rattle.gates.specs.Sequences.{sequenceTurns}
 use Rattle.gates.specs.declared.Line.{Line}
 use Rattle.gates.specs.declared.Verdict.{Verdict}
 use Rattle.gates.specs.declared.Verdict.the-variants as verdict
@@ -33,7 +28,3 @@ told WrongRowCount = record { number = 2; count = 0; looks = 0 }
 told UnknownGate = record { number = 9; count = 0; looks = 0 }
 told QubitTooHigh = record { number = 10; count = 0; looks = 0 }
 told EqualQubits = record { number = 11; count = 0; looks = 0 }
-
--- where the call answers, the words left are the whole product of the turns of the gates
-unfoldable pub Replays : ℕ → List ℕ → List ℕ → GateAction → Type 0
-Replays n bytes left r = told r .number ≡ 0 → rowsOfWords left ≡ product n (sequenceTurns n bytes)

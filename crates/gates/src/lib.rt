@@ -1,6 +1,7 @@
 // Gate sequences: the action of a sequence of gates, laid into lent rows.
 use binar::Row;
 use symplectic::Action;
+use symplectic::Told;
 ghost use mathlib.Core.Path.{_≡_};
 ghost use mathlib.Core.Bool.{true};
 ghost use mathlib.Core.List.{map};
@@ -9,10 +10,10 @@ ghost use Rattle.binar.specs.Bits.{select, bit};
 ghost use Rattle.binar.specs.Rows.{val, unit};
 ghost use Rattle.symplectic.specs.Turns.{followedBy};
 ghost use Rattle.symplectic.specs.Actions.{qubits as qubitsOf, matrix};
-ghost use Rattle.symplectic.specs.Replies.{toldOf};
+ghost use Rattle.symplectic.specs.Replies.{toldOf, Rebuilds};
 ghost use Rattle.gates.specs.Sheet.{gate, turnVector};
-ghost use Rattle.gates.specs.Sequences.{readsTwo, gateQuestions, gatesReply};
-ghost use Rattle.gates.specs.Answers.{gateOf, numberOf, told, Replays};
+ghost use Rattle.gates.specs.Sequences.{readsTwo, gateQuestions, sequenceTurns, gatesReply};
+ghost use Rattle.gates.specs.Answers.{gateOf, numberOf, told};
 
 // A line of the gate sheet: how many qubits the gate reads, how many turns it has, and their codes.
 struct Line {
@@ -161,11 +162,25 @@ fn after_gate(act: Action, g: u8, a: u8, b: u8) -> Action
     after
 }
 
+// The number and the count that an answer stands for.
+pub fn tell(r: GateAction) -> Told
+    ensures { λ t. ⌜ t ≡ told r ⌝ }
+{
+    match r {
+        GateAction::Rows { count } => symplectic::telling(0, count, 0),
+        GateAction::TooManyQubits => symplectic::telling(1, 0, 0),
+        GateAction::WrongRowCount => symplectic::telling(2, 0, 0),
+        GateAction::UnknownGate => symplectic::telling(9, 0, 0),
+        GateAction::QubitTooHigh => symplectic::telling(10, 0, 0),
+        GateAction::EqualQubits => symplectic::telling(11, 0, 0),
+    }
+}
+
 // The action of the whole gates among the bytes, three bytes each, in exactly 2n lent rows.
 pub fn gate_action(n: u64, bytes: &[u8], out: &mut [u64]) -> GateAction
     ensures answered { λ r. ⌜ told r ≡ toldOf (gatesReply n (now (bytes .entry)) (now (out .entry))) ⌝ }
     ensures left { λ r. ⌜ now (out .exit) ≡ gatesReply n (now (bytes .entry)) (now (out .entry)) .words ⌝ }
-    ensures replays { λ r. ⌜ Replays n (now (bytes .entry)) (now (out .exit)) r ⌝ }
+    ensures replays { λ r. ⌜ Rebuilds n (sequenceTurns n (now (bytes .entry))) (now (out .exit)) (told r) ⌝ }
 {
     if 32 < n {
         return GateAction::TooManyQubits;

@@ -3,13 +3,13 @@
 use mathlib.Core.List.{List}
 use Prim.Native.Nat.{ℕ, _+_, _*_, _%_}
 use lib.ListN.{take}
+use Rattle.symplectic.specs.declared.Told.{Told}
 use Rattle.symplectic.specs.Replies.{Reply}
 use Rattle.lines.specs.Lines.{minName, greedyName}
 use Rattle.lines.specs.declared.Line.{Line}
 use Rattle.lines.specs.declared.Name.{Name}
 use Rattle.lines.specs.declared.Name.the-variants.{Min, Greedy}
 use Rattle.lines.specs.declared.Tally.{Tally}
-use Rattle.lines.specs.declared.Told.{Told}
 
 -- how many bytes a line has room for
 unfoldable pub lineRoom : ℕ

@@ -1,5 +1,6 @@
 // A line of the printout, by value. Each function writes behind the bytes that a line has.
 use binar::Row;
+use symplectic::Told;
 ghost use mathlib.Core.Path.{_≡_};
 ghost use mathlib.Core.List.{[], _∷_, _++_};
 ghost use Prim.Native.Nat.{_+_, min};
@@ -24,13 +25,6 @@ pub enum Name {
 pub struct Tally {
     pub tens: u64,
     pub unit: u64,
-}
-
-// An answer without the lent words.
-pub struct Told {
-    pub number: u64,
-    pub count: u64,
-    pub looks: u64,
 }
 
 fn lesser(m: usize, n: usize) -> usize

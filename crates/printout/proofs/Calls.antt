@@ -5,11 +5,10 @@ use mathlib.Core.List.{List, _∷_, map}
 use mathlib.Core.Option.{Option, none, some}
 use Prim.Native.Nat.{ℕ, zero, suc, _+_, _*_, _^_, _≤_, _<_}
 use native.Mathlib.Omega.{arith}
-use lib.ListN.{length, take, drop, replicate}
-use lib.Seq.{take-at}
+use lib.ListN.{length, take, replicate}
 use Rattle.blocks.specs.Matrices.{times, All}
-use Rattle.blocks.specs.Words.{rowsOfWords, wordsOfRows, laid}
-use Rattle.blocks.proofs.Values.{laid-fits, laid-length}
+use Rattle.blocks.specs.Words.{rowsOfWords}
+use Rattle.blocks.proofs.Values.{laid-front, laid-length}
 use Rattle.symplectic.specs.Replies.{Reply, refused, listed, unlessRefused, sizeQuestion, countQuestion, listQuestions}
 use Rattle.symplectic.specs.Turns.{product}
 use Rattle.symplectic.proofs.Questions.{question-2, list-refused, list-known, reply-refused}
@@ -29,11 +28,6 @@ pub blank-front : (k m : ℕ) → k ≤ m → take {A = ℕ} k (replicate m 0) �
 blank-front zero m h = refl
 blank-front (suc k) zero h = absurd (omega arith)
 blank-front (suc k) (suc m) h = ap (λ (l : List ℕ). 0 ∷ l) (blank-front k m (omega arith))
-
--- as many rows as were laid
-laid-front : (rows out : List ℕ) → length rows ≤ length out → take (length rows) (rowsOfWords (laid rows out)) ≡ rows
-unfolding rowsOfWords wordsOfRows
-laid-front rows out h = ap (take (length rows)) (laid-fits rows out h) ∙ take-at rows (drop (length rows) out) (length rows) refl
 
 -- the vectors of a greedy answer
 pub greedy-below : (n : ℕ) (words out : List ℕ)

@@ -8,10 +8,10 @@ use native.Mathlib.Omega.{arith}
 use lib.ListN.{length, take, length-take}
 use Rattle.blocks.specs.Matrices.{All}
 use Rattle.blocks.specs.Words.{rowsOfWords}
-use Rattle.symplectic.specs.Replies.{Reply, refused}
+use Rattle.symplectic.specs.declared.Told.{Told}
+use Rattle.symplectic.specs.Replies.{Reply, toldOf, refused}
 use Rattle.lines.specs.Lines.{line}
 use Rattle.lines.specs.declared.Name.{Name}
-use Rattle.lines.specs.declared.Told.{Told}
 use Rattle.lines.specs.Bytes.{lineRoom, nameBytes, replyOf}
 use Rattle.lines.proofs.Fits.{line-whole, name-length}
 use Rattle.printout.specs.declared.Loaded.{Loaded}
@@ -56,13 +56,22 @@ module _ (n i : ℕ) (which : Name) (t : Told) (words : List ℕ) (few : n ≤ 3
   -- the vectors' width m only bounds the load
   pub line-told : (t .number < 2 ^ 64) × (t .count < 2 ^ 64) × (t .looks < 2 ^ 64) → (m : ℕ) → m ≤ 2 ^ 32 → length words ≤ 130
       → All (λ v. v < 2 ^ m) (take (reply .count) (rowsOfWords (reply .words)))
-      → t .number ≡ reply .number → t .count ≡ reply .count → t .looks ≡ reply .looks → words ≡ reply .words
+      → t ≡ toldOf reply → words ≡ reply .words
       → take lineRoom (line n i (nameBytes which) (replyOf t words)) ≡ line n i (nameBytes which) reply
-  unfolding rowsOfWords
-  line-told bounds m wide short below a b c d =
+  unfolding rowsOfWords toldOf
+  line-told bounds m wide short below e d =
       ap (λ (r : Reply). take lineRoom (line n i (nameBytes which) r)) same
-      ∙ line-whole n i (nameBytes which) reply few entry (name-length which) (omega (arith, bounds .0)) (omega (arith, bounds .1)) (omega (arith, bounds .2)) m wide
+      ∙ line-whole n i (nameBytes which) reply few entry (name-length which) (omega (arith, bounds .0, number)) (omega (arith, bounds .1, count)) (omega (arith, bounds .2, looks)) m wide
       (omega (arith, length-take (reply .count) (reply .words), ap length d)) below
     where
+      number : t .number ≡ reply .number
+      number = ap (λ (x : Told). x .number) e
+
+      count : t .count ≡ reply .count
+      count = ap (λ (x : Told). x .count) e
+
+      looks : t .looks ≡ reply .looks
+      looks = ap (λ (x : Told). x .looks) e
+
       same : replyOf t words ≡ reply
-      same = simp (a, b, c, d)
+      same = simp (number, count, looks, d)

@@ -1,10 +1,6 @@
 // The lines of a job file's entries, by their number: the greedy list and the minimal list of each entry's action.
-use gates::GateAction;
 use lines::Line;
 use lines::Name;
-use lines::Told;
-use transvection::Listing;
-use transvection_exact::Minimal;
 ghost use mathlib.Core.Path.{_≡_};
 ghost use mathlib.Core.Bool.{true};
 ghost use mathlib.Core.List.{[]};
@@ -12,11 +8,8 @@ ghost use Prim.Native.Nat.{_+_, _*_, _<_, _≤_};
 ghost use lib.ListN.{take};
 ghost use Rattle.symplectic.specs.Replies.{refused};
 ghost use Rattle.gates.specs.Sequences.{gatesReply};
-ghost use Rattle.gates.specs.Answers.{told as toldGates};
 ghost use Rattle.transvection.specs.Greedy.{greedyReply};
-ghost use Rattle.transvection.specs.Answers.{told as toldGreedy};
 ghost use Rattle.transvection_exact.specs.Minimal.{minimalReply};
-ghost use Rattle.transvection_exact.specs.Answers.{told as toldMinimal};
 ghost use Rattle.job.specs.Files.{part as partOf, qubitCount, entry};
 ghost use Rattle.lines.specs.Lines.{line, minName, greedyName};
 ghost use Rattle.lines.specs.Bytes.{bytesOf, nameBytes};
@@ -67,20 +60,6 @@ fn given(file: &[u8], offset: u64, m: u64) -> Loaded
     l
 }
 
-// The number of a gate sequence's answer.
-fn number_of(a: GateAction) -> u64
-    ensures { λ r. ⌜ r ≡ toldGates a .number ⌝ }
-{
-    match a {
-        GateAction::Rows { count: _ } => 0,
-        GateAction::TooManyQubits => 1,
-        GateAction::WrongRowCount => 2,
-        GateAction::UnknownGate => 9,
-        GateAction::QubitTooHigh => 10,
-        GateAction::EqualQubits => 11,
-    }
-}
-
 // The action of a gate sequence.
 fn made(n: u64, bytes: &[u8]) -> Loaded
     requires { ⌜ n ≤ 32 ⌝ }
@@ -89,9 +68,10 @@ fn made(n: u64, bytes: &[u8]) -> Loaded
     let mut rows: [u64; 64] = [0; 64];
     let m = (n + n) as usize;
     let a = gates::gate_action(n, bytes, &mut rows[..m]);
+    let told = gates::tell(a);
     Loaded {
         rows: rows,
-        number: number_of(a),
+        number: told.number,
     }
 }
 
@@ -123,52 +103,10 @@ fn refusal_line(n: u64, i: u64, which: Name, number: u64) -> Line
     ensures { λ r. ⌜ bytesOf r ≡ line n i (nameBytes which) (refused number 0 []) ⌝ }
 {
     let none: [u64; 1] = [0; 1];
-    let told = Told {
-        number: number,
-        count: 0,
-        looks: 0,
-    };
-    lines::entry_line(n, i, which, told, &none[..0])
+    lines::entry_line(n, i, which, symplectic::telling(number, 0, 0), &none[..0])
 }
 
 // ---- greedy
-
-fn told_greedy(a: Listing) -> Told
-    ensures { λ r. ⌜ (r .number ≡ toldGreedy a .number) × (r .count ≡ toldGreedy a .count) × (r .looks ≡ toldGreedy a .looks) ⌝ }
-{
-    match a {
-        Listing::Listed { count } => Told {
-            number: 0,
-            count: count,
-            looks: 0,
-        },
-        Listing::TooManyQubits => Told {
-            number: 1,
-            count: 0,
-            looks: 0,
-        },
-        Listing::WrongRowCount => Told {
-            number: 2,
-            count: 0,
-            looks: 0,
-        },
-        Listing::RowTooWide => Told {
-            number: 3,
-            count: 0,
-            looks: 0,
-        },
-        Listing::NotSymplectic => Told {
-            number: 4,
-            count: 0,
-            looks: 0,
-        },
-        Listing::OutputTooShort => Told {
-            number: 5,
-            count: 0,
-            looks: 0,
-        },
-    }
-}
 
 // The line of the greedy list of an action.
 fn greedy_answer(n: u64, i: u64, l: Loaded) -> Line
@@ -180,7 +118,7 @@ fn greedy_answer(n: u64, i: u64, l: Loaded) -> Line
     let m = (n + n) as usize;
     let k = (4 * n + 2) as usize;
     let a = transvection::clifford_to_transvections(n, &rows[..m], &mut out[..k]);
-    lines::entry_line(n, i, Name::Greedy, told_greedy(a), &out[..k])
+    lines::entry_line(n, i, Name::Greedy, transvection::tell(a), &out[..k])
 }
 
 // The line of entry i's greedy list. Where there is no entry i that passes, the empty line.
@@ -200,53 +138,6 @@ pub fn greedy_line(file: &[u8], i: u64) -> Line
 
 // ---- minimal
 
-fn told_min(a: Minimal) -> Told
-    ensures { λ r. ⌜ (r .number ≡ toldMinimal a .number) × (r .count ≡ toldMinimal a .count) × (r .looks ≡ toldMinimal a .looks) ⌝ }
-{
-    match a {
-        Minimal::Listed { count, looks } => Told {
-            number: 0,
-            count: count,
-            looks: looks,
-        },
-        Minimal::TooManyQubits => Told {
-            number: 1,
-            count: 0,
-            looks: 0,
-        },
-        Minimal::WrongRowCount => Told {
-            number: 2,
-            count: 0,
-            looks: 0,
-        },
-        Minimal::RowTooWide => Told {
-            number: 3,
-            count: 0,
-            looks: 0,
-        },
-        Minimal::NotSymplectic => Told {
-            number: 4,
-            count: 0,
-            looks: 0,
-        },
-        Minimal::OutputTooShort => Told {
-            number: 5,
-            count: 0,
-            looks: 0,
-        },
-        Minimal::Spent { looks } => Told {
-            number: 6,
-            count: 0,
-            looks: looks,
-        },
-        Minimal::NotBordered { looks } => Told {
-            number: 7,
-            count: 0,
-            looks: looks,
-        },
-    }
-}
-
 // The line of the minimal list of an action.
 fn min_answer(n: u64, i: u64, l: Loaded) -> Line
     requires { ⌜ n ≤ 32 ⌝ }
@@ -262,7 +153,7 @@ fn min_answer(n: u64, i: u64, l: Loaded) -> Line
         1000000,
         &mut out[..k],
     );
-    lines::entry_line(n, i, Name::Min, told_min(a), &out[..k])
+    lines::entry_line(n, i, Name::Min, transvection_exact::tell(a), &out[..k])
 }
 
 // The line of entry i's minimal list. Where there is no entry i that passes, the empty line.

@@ -4,17 +4,16 @@ use mathlib.Core.Path.{_≡_, sym, ap, _∙_}
 use mathlib.Core.Bool.{Bool, true, false}
 use mathlib.Core.List.{List}
 use Prim.Native.Nat.{ℕ, suc, _+_, _≤_, _<_}
-use native.Mathlib.Omega.{arith}
 use lib.ListN.{length}
 use Rattle.blocks.specs.Words.{rowsOfWords, laid}
-use Rattle.blocks.proofs.Values.{laid-whole}
 use Rattle.symplectic.specs.Turns.{product}
-use Rattle.symplectic.specs.Replies.{Reply, Told, toldOf, refused, listed, ask, fitAll}
+use Rattle.symplectic.specs.declared.Told.{Told}
+use Rattle.symplectic.specs.Replies.{Reply, toldOf, refused, listed, ask, fitAll, Rebuilds}
 use Rattle.symplectic.proofs.Products.{product-length}
-use Rattle.symplectic.proofs.Questions.{size-refused, size-passed, size-known, count-refused, count-passed, count-known, ask-passed, reply-passed, reply-refused}
-use Rattle.rebuild.specs.declared.Rebuilt.{Rebuilt}
+use Rattle.symplectic.proofs.Questions.{size-refused, size-passed, size-known, count-refused, count-passed, count-known, ask-passed}
+use Rattle.symplectic.proofs.Answered.{Meets, Holds, meets-refused, meets-answer, rebuilds}
 use Rattle.rebuild.specs.declared.Rebuilt.the-variants.{Rows}
-use Rattle.rebuild.specs.Answers.{told, Replays}
+use Rattle.rebuild.specs.Answers.{told}
 use Rattle.rebuild.specs.Rebuilds.{rebuildQuestions, rebuildReply}
 
 -- ---- the questions
@@ -48,27 +47,28 @@ module _ (n : ℕ) (vs rows : List ℕ) where
 
 -- ---- the reply
 
--- what the contract says of an answer r that leaves the words `left`
-abbrev pub Meets : ℕ → List ℕ → List ℕ → List ℕ → Rebuilt → Type 0
-Meets n list out left r =
-    (told r ≡ toldOf (rebuildReply n list out)) × ((left ≡ rebuildReply n list out .words) × Replays n list left r)
-
 module _ (n : ℕ) (list out : List ℕ) where
-  -- a refusal leaves the words as they are
-  pub meets-refused : (k : ℕ) (r : Rebuilt) → rebuildQuestions n (rowsOfWords list) (rowsOfWords out) ≡ suc k → told r ≡ toldOf (refused (suc k) 0 out) → Meets n list out out r
-  unfolding refused toldOf Replays rebuildReply
-  meets-refused k r e t =
-      let w = reply-refused (rebuildQuestions n (rowsOfWords list) (rowsOfWords out)) k out (listed (product n (rowsOfWords list)) 0 out) e in
-      let number : told r .number ≡ suc k = ap (λ (x : Told). x .number) t in
-      (t ∙ sym (ap toldOf w), (sym (ap (λ (x : Reply). x .words) w), λ z. absurd (omega (arith, z, number))))
+  abbrev asked : ℕ
+  asked = rebuildQuestions n (rowsOfWords list) (rowsOfWords out)
 
-  -- an answer lays the product into the words, and is all of them
-  pub meets-listed : (count : ℕ) (left : List ℕ) → rebuildQuestions n (rowsOfWords list) (rowsOfWords out) ≡ 0 → count ≡ n + n → left ≡ laid (product n (rowsOfWords list)) out → Meets n list out left (Rows count)
-  unfolding listed toldOf told Replays rebuildReply rowsOfWords
-  meets-listed count left e c l =
-      let vs = product n (rowsOfWords list) in
-      let w = reply-passed (rebuildQuestions n (rowsOfWords list) (rowsOfWords out)) out (listed vs 0 out) e in
-      let size : length vs ≡ n + n = product-length n (rowsOfWords list) in
-      let lent : length (rowsOfWords out) ≡ n + n = asked-known n (rowsOfWords list) (rowsOfWords out) e .1 in
-      let same : told (Rows count) ≡ toldOf (listed vs 0 out) = ap (λ (k : ℕ). told (Rows k)) (c ∙ sym size) in
-      (same ∙ sym (ap toldOf w), (l ∙ sym (ap (λ (x : Reply). x .words) w), λ z. ap rowsOfWords l ∙ laid-whole vs out (size ∙ sym lent)))
+  abbrev Promised : List ℕ → Told → Type 0
+  Promised = Rebuilds n (rowsOfWords list)
+
+  abbrev answer : Reply
+  answer = listed (product n (rowsOfWords list)) 0 out
+
+  pub rebuild-rebuilds : Holds Promised (rebuildReply n list out)
+  unfolding rebuildReply
+  rebuild-rebuilds = rebuilds n (rowsOfWords list) asked out (λ e. asked-known n (rowsOfWords list) (rowsOfWords out) e .1)
+
+  pub rebuild-refused : (k : ℕ) (t : Told) → rebuildQuestions n (rowsOfWords list) (rowsOfWords out) ≡ suc k → t ≡ toldOf (refused (suc k) 0 out) → Meets Promised (rebuildReply n list out) out t
+  unfolding rebuildReply
+  rebuild-refused k t = meets-refused Promised asked out answer rebuild-rebuilds t k
+
+  -- an answer lays the product into the words
+  pub rebuild-listed : (count : ℕ) (left : List ℕ) → rebuildQuestions n (rowsOfWords list) (rowsOfWords out) ≡ 0 → count ≡ n + n → left ≡ laid (product n (rowsOfWords list)) out
+      → Meets Promised (rebuildReply n list out) left (told (Rows count))
+  unfolding rebuildReply listed toldOf told
+  rebuild-listed count left e c l =
+      meets-answer Promised asked out answer rebuild-rebuilds (told (Rows count)) e left
+      (ap (λ (k : ℕ). told (Rows k)) (c ∙ sym (product-length n (rowsOfWords list)))) l

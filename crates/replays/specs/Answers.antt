@@ -1,16 +1,12 @@
--- What an answer says, as the definitions of the calls say it; when it is that of a record, and when a record has room in the buffers.
+-- When an answer is that of a record, and when a record has room in the buffers.
 -- Assumes nothing.
 use mathlib.Core.Path.{_≡_}
 use Prim.Native.Nat.{_≤_}
-use Rattle.symplectic.specs.Replies.{Told}
-use Rattle.replays.specs.declared.Answer.{Answer}
+use Rattle.symplectic.specs.declared.Told.{Told}
 use Rattle.replays.specs.declared.Case.{Case}
 
-unfoldable pub toldBy : Answer → Told
-toldBy a = record { number = a .number; count = a .count; looks = a .looks }
-
 -- the answer is that of the record
-unfoldable pub Alike : Case → Answer → Type 0
+unfoldable pub Alike : Case → Told → Type 0
 Alike c a = (a .number ≡ c .number) × (a .count ≡ c .count) × (a .looks ≡ c .looks)
 
 -- the record's words have room in the buffers

@@ -2,25 +2,18 @@
 // A record is a header of 32 bytes, little-endian, and two runs of words: what is lent, and what is listed. See tools/mkreplay.
 mod tally;
 
-use gates::GateAction;
-use rebuild::Rebuilt;
+use symplectic::Told;
 pub use tally::run;
-use transvection::Listing;
-use transvection_exact::Minimal;
 ghost use mathlib.Core.Path.{_≡_};
 ghost use mathlib.Core.Bool.{true};
 ghost use Prim.Native.Nat.{_≤_, _<_};
 ghost use lib.ListN.{length};
 ghost use Rattle.symplectic.specs.Replies.{toldOf};
 ghost use Rattle.rebuild.specs.Rebuilds.{rebuildReply};
-ghost use Rattle.rebuild.specs.Answers.{told as toldRebuilt};
 ghost use Rattle.transvection.specs.Greedy.{greedyReply};
-ghost use Rattle.transvection.specs.Answers.{told as toldListing};
 ghost use Rattle.transvection_exact.specs.Minimal.{minimalReply};
-ghost use Rattle.transvection_exact.specs.Answers.{told as toldMinimal};
 ghost use Rattle.gates.specs.Sequences.{gatesReply};
-ghost use Rattle.gates.specs.Answers.{told as toldGates};
-ghost use Rattle.replays.specs.Answers.{toldBy, Alike, HasRoom};
+ghost use Rattle.replays.specs.Answers.{Alike, HasRoom};
 
 // What each output word holds before a call.
 const FILL: u64 = 0xa5a5a5a5a5a5a5a5;
@@ -31,13 +24,6 @@ const MIN: u64 = 0;
 const GREEDY: u64 = 1;
 
 const REBUILD: u64 = 2;
-
-// What a call answers: 0 or the number of a refusal, how many words it listed, and how many looks it took.
-pub struct Answer {
-    pub number: u64,
-    pub count: u64,
-    pub looks: u64,
-}
 
 // A record's header: the call, the size of a word in bytes, how many words are lent and listed, and the answer.
 struct Case {
@@ -54,98 +40,36 @@ struct Case {
 
 // ---- the calls
 
-fn told(number: u64, count: u64, looks: u64) -> Answer
-    ensures { λ r. ⌜ toldBy r ≡ record { number = number; count = count; looks = looks } ⌝ }
-{
-    Answer {
-        number: number,
-        count: count,
-        looks: looks,
-    }
-}
-
-fn of_rebuilt(r: Rebuilt) -> Answer
-    ensures { λ a. ⌜ toldBy a ≡ toldRebuilt r ⌝ }
-{
-    match r {
-        Rebuilt::Rows { count } => told(0, count, 0),
-        Rebuilt::TooManyQubits => told(1, 0, 0),
-        Rebuilt::WrongRowCount => told(2, 0, 0),
-        Rebuilt::VectorTooWide => told(8, 0, 0),
-    }
-}
-
-pub fn rebuild_answer(n: u64, list: &[u64], out: &mut [u64]) -> Answer
-    ensures answered { λ a. ⌜ toldBy a ≡ toldOf (rebuildReply n (now (list .entry)) (now (out .entry))) ⌝ }
+pub fn rebuild_answer(n: u64, list: &[u64], out: &mut [u64]) -> Told
+    ensures answered { λ a. ⌜ a ≡ toldOf (rebuildReply n (now (list .entry)) (now (out .entry))) ⌝ }
     ensures left { λ a. ⌜ now (out .exit) ≡ rebuildReply n (now (list .entry)) (now (out .entry)) .words ⌝ }
 {
     let r = rebuild::rebuild(n, list, out);
-    of_rebuilt(r)
+    rebuild::tell(r)
 }
 
-fn of_listing(r: Listing) -> Answer
-    ensures { λ a. ⌜ toldBy a ≡ toldListing r ⌝ }
-{
-    match r {
-        Listing::Listed { count } => told(0, count, 0),
-        Listing::TooManyQubits => told(1, 0, 0),
-        Listing::WrongRowCount => told(2, 0, 0),
-        Listing::RowTooWide => told(3, 0, 0),
-        Listing::NotSymplectic => told(4, 0, 0),
-        Listing::OutputTooShort => told(5, 0, 0),
-    }
-}
-
-pub fn greedy_answer(n: u64, rows: &[u64], out: &mut [u64]) -> Answer
-    ensures answered { λ a. ⌜ toldBy a ≡ toldOf (greedyReply n (now (rows .entry)) (now (out .entry))) ⌝ }
+pub fn greedy_answer(n: u64, rows: &[u64], out: &mut [u64]) -> Told
+    ensures answered { λ a. ⌜ a ≡ toldOf (greedyReply n (now (rows .entry)) (now (out .entry))) ⌝ }
     ensures left { λ a. ⌜ now (out .exit) ≡ greedyReply n (now (rows .entry)) (now (out .entry)) .words ⌝ }
 {
     let r = transvection::clifford_to_transvections(n, rows, out);
-    of_listing(r)
+    transvection::tell(r)
 }
 
-fn of_minimal(r: Minimal) -> Answer
-    ensures { λ a. ⌜ toldBy a ≡ toldMinimal r ⌝ }
-{
-    match r {
-        Minimal::Listed { count, looks } => told(0, count, looks),
-        Minimal::TooManyQubits => told(1, 0, 0),
-        Minimal::WrongRowCount => told(2, 0, 0),
-        Minimal::RowTooWide => told(3, 0, 0),
-        Minimal::NotSymplectic => told(4, 0, 0),
-        Minimal::OutputTooShort => told(5, 0, 0),
-        Minimal::Spent { looks } => told(6, 0, looks),
-        Minimal::NotBordered { looks } => told(7, 0, looks),
-    }
-}
-
-pub fn min_answer(n: u64, rows: &[u64], budget: u64, out: &mut [u64]) -> Answer
-    ensures answered { λ a. ⌜ toldBy a ≡ toldOf (minimalReply n (now (rows .entry)) budget (now (out .entry))) ⌝ }
+pub fn min_answer(n: u64, rows: &[u64], budget: u64, out: &mut [u64]) -> Told
+    ensures answered { λ a. ⌜ a ≡ toldOf (minimalReply n (now (rows .entry)) budget (now (out .entry))) ⌝ }
     ensures left { λ a. ⌜ now (out .exit) ≡ minimalReply n (now (rows .entry)) budget (now (out .entry)) .words ⌝ }
 {
     let r = transvection_exact::clifford_to_transvections_minimal(n, rows, budget, out);
-    of_minimal(r)
+    transvection_exact::tell(r)
 }
 
-fn of_gates(r: GateAction) -> Answer
-    ensures { λ a. ⌜ toldBy a ≡ toldGates r ⌝ }
-{
-    match r {
-        GateAction::Rows { count } => told(0, count, 0),
-        GateAction::TooManyQubits => told(1, 0, 0),
-        GateAction::WrongRowCount => told(2, 0, 0),
-        GateAction::UnknownGate => told(9, 0, 0),
-        GateAction::QubitTooHigh => told(10, 0, 0),
-        GateAction::EqualQubits => told(11, 0, 0),
-    }
-}
-
-pub fn gates_answer(n: u64, bytes: &[u8], out: &mut [u64]) -> Answer
-    ensures answered { λ a. ⌜ toldBy a ≡ toldOf (gatesReply n (now (bytes .entry)) (now (out .entry))) ⌝ }
+pub fn gates_answer(n: u64, bytes: &[u8], out: &mut [u64]) -> Told
+    ensures answered { λ a. ⌜ a ≡ toldOf (gatesReply n (now (bytes .entry)) (now (out .entry))) ⌝ }
     ensures left { λ a. ⌜ now (out .exit) ≡ gatesReply n (now (bytes .entry)) (now (out .entry)) .words ⌝ }
 {
     let r = gates::gate_action(n, bytes, out);
-    of_gates(r)
+    gates::tell(r)
 }
 
 // The low bytes of some words.
@@ -161,7 +85,7 @@ fn bytes_of(words: &[u64]) -> [u8; 320]
 }
 
 // The gate call, on bytes that are lent as words.
-fn gate_words(n: u64, words: &[u64], out: &mut [u64]) -> Answer
+fn gate_words(n: u64, words: &[u64], out: &mut [u64]) -> Told
     requires { ⌜ length (now words) ≤ 320 ⌝ }
 {
     let bytes = bytes_of(words);
@@ -175,7 +99,7 @@ fn known(kind: u64) -> bool
 }
 
 // The call of a known kind.
-fn call(c: Case, lent: &[u64], out: &mut [u64]) -> Answer
+fn call(c: Case, lent: &[u64], out: &mut [u64]) -> Told
     requires { ⌜ length (now lent) ≤ 320 ⌝ }
 {
     if c.kind == MIN {
@@ -290,7 +214,7 @@ fn same(a: &[u64], b: &[u64]) -> bool
 }
 
 // Whether the answer is that of the record.
-fn told_alike(c: Case, a: Answer) -> bool
+fn told_alike(c: Case, a: Told) -> bool
     ensures { λ r. ⌜ (r ≡ true → Alike c a) × (Alike c a → r ≡ true) ⌝ }
 {
     if a.number != c.number {

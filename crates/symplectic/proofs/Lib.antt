@@ -7,5 +7,6 @@ pub mod Layers
 pub mod Arrays
 pub mod Tests
 pub mod Questions
+pub mod Answered
 pub mod Picked
 pub mod FirstPicks

@@ -1,13 +1,15 @@
 -- What a call answers, and the questions that list calls share.
 -- Assumes nothing.
+use mathlib.Core.Path.{_≡_}
 use mathlib.Core.Bool.{Bool, true, false}
 use mathlib.Core.List.{List}
 use Prim.Native.Nat.{ℕ, zero, suc, _+_, _^_}
 use lib.Dec.{leb, ltb, eqb}
-use lib.ListN.{length}
-use Rattle.blocks.specs.Words.{laid}
+use lib.ListN.{length, take}
+use Rattle.blocks.specs.Words.{rowsOfWords, laid}
 use Rattle.symplectic.specs.Actions.{maxQubits}
-use Rattle.symplectic.specs.Turns.{allOf, symplectic}
+use Rattle.symplectic.specs.Turns.{allOf, symplectic, product}
+use Rattle.symplectic.specs.declared.Told.{Told}
 
 -- a call's whole answer
 pub record Reply : Type 0 where
@@ -21,11 +23,6 @@ pub record Reply : Type 0 where
   pub words : List ℕ
 
 -- an answer without the lent words
-pub record Told : Type 0 where
-  pub number : ℕ
-  pub count : ℕ
-  pub looks : ℕ
-
 unfoldable pub toldOf : Reply → Told
 toldOf r = record { number = r .number; count = r .count; looks = r .looks }
 
@@ -72,3 +69,13 @@ actionQuestions n rows =
 -- of a list call, then 5: are there at least as many output words as it wants?
 unfoldable pub listQuestions : ℕ → List ℕ → ℕ → ℕ → ℕ
 listQuestions n rows wanted lent = andThen (actionQuestions n rows) (ask (leb wanted lent) 5 0)
+
+-- ---- what an answer promises
+
+-- of a list call: the product of the vectors left is the whole lent action
+unfoldable pub Replays : ℕ → List ℕ → List ℕ → Told → Type 0
+Replays n rows left t = t .number ≡ 0 → product n (take (t .count) (rowsOfWords left)) ≡ rowsOfWords rows
+
+-- of a call that multiplies turns out: the words left are their whole product
+unfoldable pub Rebuilds : ℕ → List ℕ → List ℕ → Told → Type 0
+Rebuilds n turns left t = t .number ≡ 0 → rowsOfWords left ≡ product n turns

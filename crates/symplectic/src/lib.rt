@@ -16,6 +16,14 @@ pub struct Action {
     pub rows: [Row; 64],
 }
 
+// A call's answer without the lent words: 0 or the number of the question that was answered no, how many words it listed, and how
+// many draws its search took.
+pub struct Told {
+    pub number: u64,
+    pub count: u64,
+    pub looks: u64,
+}
+
 // Which question is answered no, if any.
 pub enum Question {
     Passed,
@@ -23,6 +31,16 @@ pub enum Question {
     WrongRowCount,
     RowTooWide,
     NotSymplectic,
+}
+
+pub fn telling(number: u64, count: u64, looks: u64) -> Told
+    ensures { λ r. ⌜ r ≡ record { number = number; count = count; looks = looks } ⌝ }
+{
+    Told {
+        number: number,
+        count: count,
+        looks: looks,
+    }
 }
 
 fn lesser(m: usize, n: usize) -> usize

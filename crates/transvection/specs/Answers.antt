@@ -1,16 +1,13 @@
 -- What the values of the code mean: what a search finds, the turns of a record, and the answer of the call.
 -- Assumes nothing.
-use mathlib.Core.Path.{_≡_}
 use mathlib.Core.List.{List}
 use mathlib.Core.Option.{Option, none}
-use Prim.Native.Nat.{ℕ, _*_, _≤_}
+use Prim.Native.Nat.{ℕ}
 use lib.ListN.{getD, take, drop}
 use Rattle.binar.specs.Rows.{val}
 use Rattle.blocks.specs.Blocks.{vals}
-use Rattle.blocks.specs.Words.{rowsOfWords}
-use Rattle.symplectic.specs.Turns.{product}
 use Rattle.symplectic.specs.Picks.{orIf, mapSome, firstOne, unevenWith, firstUneven, addBoth}
-use Rattle.symplectic.specs.Replies.{Told}
+use Rattle.symplectic.specs.declared.Told.{Told}
 use Rattle.transvection.specs.declared.Next.{Next}
 use Rattle.transvection.specs.declared.Record.{Record}
 use Rattle.transvection.specs.declared.Listing.{Listing}
@@ -47,8 +44,3 @@ told WrongRowCount = record { number = 2; count = 0; looks = 0 }
 told RowTooWide = record { number = 3; count = 0; looks = 0 }
 told NotSymplectic = record { number = 4; count = 0; looks = 0 }
 told OutputTooShort = record { number = 5; count = 0; looks = 0 }
-
--- where the call answers, the product of the vectors left is the whole action, and they are at most four for each qubit
-unfoldable pub Replays : ℕ → List ℕ → List ℕ → Listing → Type 0
-Replays n rows left r =
-    told r .number ≡ 0 → (product n (take (told r .count) (rowsOfWords left)) ≡ rowsOfWords rows) × (told r .count ≤ 4 * n)

@@ -2,6 +2,7 @@
 use binar::Row;
 use symplectic::Action;
 use symplectic::Question;
+use symplectic::Told;
 ghost use mathlib.Core.Path.{_≡_};
 ghost use mathlib.Core.Option.{none};
 ghost use mathlib.Core.List.{reverse};
@@ -12,9 +13,9 @@ ghost use Rattle.binar.specs.Rows.{val};
 ghost use Rattle.blocks.specs.Words.{laid};
 ghost use Rattle.symplectic.specs.Turns.{pairing, identityPlus};
 ghost use Rattle.symplectic.specs.Actions.{qubits, matrix};
-ghost use Rattle.symplectic.specs.Replies.{toldOf};
+ghost use Rattle.symplectic.specs.Replies.{toldOf, Replays};
 ghost use Rattle.transvection.specs.Greedy.{firstNonzero, nextTransvection, recorded, greedyReply};
-ghost use Rattle.transvection.specs.Answers.{chosen, turns, oneFrom, withFrom, pairFrom, told, Replays};
+ghost use Rattle.transvection.specs.Answers.{chosen, turns, oneFrom, withFrom, pairFrom, told};
 
 // What a search finds, if anything.
 pub struct Next {
@@ -192,11 +193,26 @@ fn store_reversed(kept: Record, out: &mut [u64])
     }
 }
 
+// The number and the count that an answer stands for.
+pub fn tell(r: Listing) -> Told
+    ensures { λ t. ⌜ t ≡ told r ⌝ }
+{
+    match r {
+        Listing::Listed { count } => symplectic::telling(0, count, 0),
+        Listing::TooManyQubits => symplectic::telling(1, 0, 0),
+        Listing::WrongRowCount => symplectic::telling(2, 0, 0),
+        Listing::RowTooWide => symplectic::telling(3, 0, 0),
+        Listing::NotSymplectic => symplectic::telling(4, 0, 0),
+        Listing::OutputTooShort => symplectic::telling(5, 0, 0),
+    }
+}
+
 // A list of turns whose product is the lent action, at most four for each qubit.
 pub fn clifford_to_transvections(n: u64, rows: &[u64], out: &mut [u64]) -> Listing
     ensures answered { λ r. ⌜ told r ≡ toldOf (greedyReply n (now (rows .entry)) (now (out .entry))) ⌝ }
     ensures left { λ r. ⌜ now (out .exit) ≡ greedyReply n (now (rows .entry)) (now (out .entry)) .words ⌝ }
-    ensures replays { λ r. ⌜ Replays n (now (rows .entry)) (now (out .exit)) r ⌝ }
+    ensures replays { λ r. ⌜ Replays n (now (rows .entry)) (now (out .exit)) (told r) ⌝ }
+    ensures few { λ r. ⌜ told r .count ≤ 4 * n ⌝ }
 {
     let question = symplectic::action_questions(n, rows);
     match question {

@@ -3,10 +3,10 @@
 use mathlib.Core.Path.{_≡_}
 use mathlib.Core.List.{List}
 use Prim.Native.Nat.{ℕ, _+_, _<_}
-use lib.ListN.{length, take}
+use lib.ListN.{length}
 use Rattle.blocks.specs.Words.{rowsOfWords}
-use Rattle.symplectic.specs.Turns.{product}
-use Rattle.symplectic.specs.Replies.{Told, listQuestions}
+use Rattle.symplectic.specs.declared.Told.{Told}
+use Rattle.symplectic.specs.Replies.{listQuestions}
 use Rattle.triangular.specs.Search.{looksOf}
 use Rattle.transvection_exact.specs.declared.Minimal.{Minimal}
 use Rattle.transvection_exact.specs.declared.Minimal.the-variants.{Listed, TooManyQubits, WrongRowCount, RowTooWide, NotSymplectic, OutputTooShort, Spent, NotBordered}
@@ -24,13 +24,9 @@ told OutputTooShort = record { number = 5; count = 0; looks = 0 }
 told (Spent looks) = record { number = 6; count = 0; looks = looks }
 told (NotBordered looks) = record { number = 7; count = 0; looks = looks }
 
--- where the call answers, the product of the vectors left is the whole action
-unfoldable pub Replays : ℕ → List ℕ → List ℕ → Minimal → Type 0
-Replays n rows left r = told r .number ≡ 0 → product n (take (told r .count) (rowsOfWords left)) ≡ rowsOfWords rows
-
 -- where the call answers, no list of vectors on 2n columns whose product is the action has fewer entries
-unfoldable pub Shortest : ℕ → List ℕ → Minimal → Type 0
-Shortest n rows r = told r .number ≡ 0 → NoneShorter n (rowsOfWords rows) (told r .count)
+unfoldable pub Shortest : ℕ → List ℕ → Told → Type 0
+Shortest n rows t = t .number ≡ 0 → NoneShorter n (rowsOfWords rows) (t .count)
 
 -- questions 1 to 5, with 2n + 1 output words, are passed, and the search takes a look beyond the budget
 abbrev pub Beyond : ℕ → List ℕ → ℕ → List ℕ → Type 0
@@ -40,9 +36,9 @@ Beyond n rows budget out =
 
 -- the budget is exact: 6 just where the search takes a look beyond it, and then every look was taken;
 -- an answer has the looks of the search without a budget
-unfoldable pub Exact : ℕ → List ℕ → ℕ → List ℕ → Minimal → Type 0
-Exact n rows budget out r =
-    (told r .number ≡ 6 → Beyond n rows budget out)
-    × ((Beyond n rows budget out → told r .number ≡ 6)
-    × ((told r .number ≡ 0 → told r .looks ≡ looksOf (coreSearch n (rowsOfWords rows)))
-    × (told r .number ≡ 6 → told r .looks ≡ budget)))
+unfoldable pub Exact : ℕ → List ℕ → ℕ → List ℕ → Told → Type 0
+Exact n rows budget out t =
+    (t .number ≡ 6 → Beyond n rows budget out)
+    × ((Beyond n rows budget out → t .number ≡ 6)
+    × ((t .number ≡ 0 → t .looks ≡ looksOf (coreSearch n (rowsOfWords rows)))
+    × (t .number ≡ 6 → t .looks ≡ budget)))

@@ -2,14 +2,15 @@
 use blocks::Block;
 use symplectic::Action;
 use symplectic::Question;
+use symplectic::Told;
 use triangular::Ending;
 ghost use mathlib.Core.Path.{_≡_};
 ghost use Rattle.blocks.specs.Blocks.{rowsOf};
 ghost use Rattle.symplectic.specs.Actions.{qubits, matrix};
-ghost use Rattle.symplectic.specs.Replies.{toldOf, listed};
+ghost use Rattle.symplectic.specs.Replies.{toldOf, listed, Replays};
 ghost use Rattle.triangular.specs.Search.{budgeted};
 ghost use Rattle.transvection_exact.specs.Minimal.{coreSearch, searchedReply, minimalReply};
-ghost use Rattle.transvection_exact.specs.Answers.{told, Replays, Shortest, Exact};
+ghost use Rattle.transvection_exact.specs.Answers.{told, Shortest, Exact};
 
 // What the call answers: how many vectors it listed after how many looks, or the first question that is answered no.
 pub enum Minimal {
@@ -21,6 +22,22 @@ pub enum Minimal {
     OutputTooShort,
     Spent { looks: u64 },
     NotBordered { looks: u64 },
+}
+
+// The number, the count and the looks that an answer stands for.
+pub fn tell(r: Minimal) -> Told
+    ensures { λ t. ⌜ t ≡ told r ⌝ }
+{
+    match r {
+        Minimal::Listed { count, looks } => symplectic::telling(0, count, looks),
+        Minimal::TooManyQubits => symplectic::telling(1, 0, 0),
+        Minimal::WrongRowCount => symplectic::telling(2, 0, 0),
+        Minimal::RowTooWide => symplectic::telling(3, 0, 0),
+        Minimal::NotSymplectic => symplectic::telling(4, 0, 0),
+        Minimal::OutputTooShort => symplectic::telling(5, 0, 0),
+        Minimal::Spent { looks } => symplectic::telling(6, 0, looks),
+        Minimal::NotBordered { looks } => symplectic::telling(7, 0, looks),
+    }
 }
 
 // The rows, laid into lent words.
@@ -73,9 +90,9 @@ pub fn clifford_to_transvections_minimal(
 ) -> Minimal
     ensures answered { λ r. ⌜ told r ≡ toldOf (minimalReply n (now (rows .entry)) budget (now (out .entry))) ⌝ }
     ensures left { λ r. ⌜ now (out .exit) ≡ minimalReply n (now (rows .entry)) budget (now (out .entry)) .words ⌝ }
-    ensures replays { λ r. ⌜ Replays n (now (rows .entry)) (now (out .exit)) r ⌝ }
-    ensures shortest { λ r. ⌜ Shortest n (now (rows .entry)) r ⌝ }
-    ensures exact { λ r. ⌜ Exact n (now (rows .entry)) budget (now (out .entry)) r ⌝ }
+    ensures replays { λ r. ⌜ Replays n (now (rows .entry)) (now (out .exit)) (told r) ⌝ }
+    ensures shortest { λ r. ⌜ Shortest n (now (rows .entry)) (told r) ⌝ }
+    ensures exact { λ r. ⌜ Exact n (now (rows .entry)) budget (now (out .entry)) (told r) ⌝ }
 {
     let question = symplectic::action_questions(n, rows);
     match question {

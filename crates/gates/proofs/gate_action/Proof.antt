@@ -10,13 +10,15 @@ use Rattle.blocks.specs.Matrices.{units}
 use Rattle.symplectic.specs.Actions.{qubits, matrix}
 use Rattle.symplectic.specs.Replies.{toldOf, refused}
 use Rattle.symplectic.proofs.Arrays.{capped-is}
+use Rattle.symplectic.proofs.Answered.{Meets}
 use Rattle.gates.specs.declared.Verdict.{Verdict}
 use Rattle.gates.specs.declared.Verdict.the-variants as verdict
 use Rattle.gates.specs.declared.GateAction.{GateAction}
 use Rattle.gates.specs.declared.GateAction.the-variants.{UnknownGate, QubitTooHigh, EqualQubits}
+use Rattle.gates.specs.Sequences.{gatesReply}
 use Rattle.gates.specs.Answers.{numberOf, told}
 use Rattle.gates.proofs.Asked.{gate-known, askedAt, Upto, upto-none, upto-all, upto-refused, upto-next}
-use Rattle.gates.proofs.Replied.{Meets, meets-1, meets-2, meets-gate, meets-listed}
+use Rattle.gates.proofs.Replied.{Promised, gates-1, gates-2, gate-refused, gates-listed}
 use borrow.Author.Needs.{needs}
 use Rattle.gates.proofs.gate_action.Statement.{statement}
 use Rattle.gates.proofs.gate_action.Tie as tie
@@ -30,7 +32,7 @@ abbrev μ-loop : tie.MeasureT-loop
 returns : tie.Need-returns Inv-loop μ-loop
 returns c =
     let s = c .before .before .before .args in
-    meets-1 (s .n) (s .bytes .now) (s .out .now) (search needs)
+    gates-1 (s .n) (s .bytes .now) (s .out .now) (search needs)
 
 add-count : tie.Need-add-count Inv-loop μ-loop
 add-count c = search needs
@@ -38,7 +40,7 @@ add-count c = search needs
 returns-2 : tie.Need-returns-2 Inv-loop μ-loop
 returns-2 c =
     let s = c .before .before .before .before .args in
-    meets-2 (s .n) (s .bytes .now) (s .out .now) (search needs) (c .if2 .taken)
+    gates-2 (s .n) (s .bytes .now) (s .out .now) (search needs) (c .if2 .taken)
 
 identity-requires : tie.Need-identity-requires Inv-loop μ-loop
 identity-requires c κs = search needs
@@ -79,18 +81,18 @@ inside c = omega arith
 
 -- what the contract says of an answer that leaves the words as they are
 abbrev Unchanged : tie.After-question Inv-loop μ-loop → GateAction → Type 0
-Unchanged c r = let s = c .before .before .before .before .before .before .before .before .before .before .before .args in Meets (s .n) (s .bytes .now) (s .out .now) (s .out .now) r
+Unchanged c r = let s = c .before .before .before .before .before .before .before .before .before .before .before .args in Meets (Promised (s .n) (s .bytes .now) (s .out .now)) (gatesReply (s .n) (s .bytes .now) (s .out .now)) (s .out .now) (told r)
 
 -- a refusal of the gate is one of the sequence
 refuses : (c : tie.After-question Inv-loop μ-loop) (k : ℕ) (v : Verdict) (r : GateAction)
     → c .question .result ≡ v → numberOf v ≡ suc k → told r ≡ record { number = suc k; count = 0; looks = 0 } → Unchanged c r
 unfolding toldOf refused
-refuses c k v r same number told =
+refuses c k v r same number tells =
     let s = c .before .before .before .before .before .before .before .before .before .before .before .args in
     let at = c .before .before .before .before .before .loop in
     let asked = sym (c .question .ensures) ∙ ap numberOf same ∙ number in
-    meets-gate (s .n) (s .bytes .now) (s .out .now) (search needs) (omega arith) k r
-    (upto-refused (s .n) (s .bytes .now) (at .i * 3) (matrix (at .act)) (at .inv .2) (inside c) k asked) told
+    gate-refused (s .n) (s .bytes .now) (s .out .now) (search needs) (omega arith) k (told r)
+    (upto-refused (s .n) (s .bytes .now) (at .i * 3) (matrix (at .act)) (at .inv .2) (inside c) k asked) tells
 
 enum-told : tie.Need-enum-told Inv-loop μ-loop
 enum-told c = search needs
@@ -159,7 +161,7 @@ returns-6 c =
     let s = c .before .before .before .before .before .before .before .before .before .before .before .args in
     let at = c .before .before .before .before .before .loop in
     let all = upto-all (s .n) (s .bytes .now) (at .i * 3) (matrix (at .act)) (at .inv .2) (omega arith) in
-    meets-listed (s .n) (s .bytes .now) (s .out .now) (search needs) (omega arith) (s .n + s .n) (c .before .before .store .last .1 .0) (all .0) refl
+    gates-listed (s .n) (s .bytes .now) (s .out .now) (search needs) (omega arith) (s .n + s .n) (c .before .before .store .last .1 .0) (all .0) refl
     (c .before .before .store .ensures ∙ ap (λ (l : List ℕ). laid l (s .out .now)) (all .1))
 
 pub gate-action-spec : {M : Type 1} → statement M

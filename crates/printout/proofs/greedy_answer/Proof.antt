@@ -7,7 +7,7 @@ use native.Mathlib.Omega.{arith}
 use lib.ListN.{length, take, drop, replicate, length-append}
 use lib.Seq.{take-at, length-take-le}
 use borrow.Author.Needs.{needs}
-use Rattle.symplectic.specs.Replies.{Told, toldOf}
+use Rattle.symplectic.specs.Replies.{toldOf}
 use Rattle.transvection.specs.Greedy.{greedyReply}
 use Rattle.lines.specs.declared.Name.the-variants.{Greedy}
 use Rattle.printout.specs.Printout.{blankWords}
@@ -49,8 +49,8 @@ slice-aggregate-clifford-to-transvections-2 c =
 clifford-to-transvections-requires : tie.Need-clifford-to-transvections-requires
 clifford-to-transvections-requires c κs = search needs
 
-told-greedy-requires : tie.Need-told-greedy-requires
-told-greedy-requires c κs = search needs
+tell-requires : tie.Need-tell-requires
+tell-requires c κs = search needs
 
 -- the lent words keep their count
 kept : (c : tie.After-clifford-to-transvections) → length (c .clifford-to-transvections .last .1 .1 .0) ≡ 4 * c .before .before .before .before .args .n + 2
@@ -80,7 +80,7 @@ returns c =
     let s = c .before .before .before .before .before .before .before .before .args in
     let n = s .n in
     let call = c .before .before .before .before .clifford-to-transvections in
-    let t = c .before .before .told-greedy in
+    let t = c .before .before .tell in
     let left = call .last .1 .1 .0 in
     let words = take (4 * n + 2) (left ++ drop (4 * n + 2) (replicate 130 0)) in
     let long = kept (c .before .before .before .before) in
@@ -92,7 +92,7 @@ returns c =
     let short : length words ≤ 130 = omega (arith, ap length front) in
     c .entry-line .ensures
     ∙ line-told n (s .i) Greedy (t .result) words (search needs) (search needs) reply (search needs) (n + n) (omega arith) short (greedy-below n rows (blankWords (4 * n + 2)))
-    (t .ensures .0 ∙ ap (λ (x : Told). x .number) told) (t .ensures .1 ∙ ap (λ (x : Told). x .count) told) (t .ensures .2 ∙ ap (λ (x : Told). x .looks) told)
+    (t .ensures ∙ told)
     (front ∙ call .ensures .1 .0 ∙ ap (λ (out : List ℕ). greedyReply n rows out .words) blank)
 
 pub greedy-answer-spec : {M : Type 1} → statement M
@@ -107,7 +107,7 @@ greedy-answer-spec =
     array-borrow-prefix-out
     slice-aggregate-clifford-to-transvections-2
     clifford-to-transvections-requires
-    told-greedy-requires
+    tell-requires
     array-share-prefix-out
     slice-aggregate-entry-line
     entry-line-requires

@@ -7,7 +7,7 @@ use native.Mathlib.Omega.{arith}
 use lib.ListN.{length, take, drop, replicate, length-append}
 use lib.Seq.{take-at, length-take-le}
 use borrow.Author.Needs.{needs}
-use Rattle.symplectic.specs.Replies.{Told, toldOf}
+use Rattle.symplectic.specs.Replies.{toldOf}
 use Rattle.transvection_exact.specs.Minimal.{minimalReply}
 use Rattle.lines.specs.declared.Name.the-variants.{Min}
 use Rattle.printout.specs.Printout.{jobBudget, blankWords}
@@ -49,8 +49,8 @@ slice-aggregate-clifford-to-transvections-minimal-2 c =
 clifford-to-transvections-minimal-requires : tie.Need-clifford-to-transvections-minimal-requires
 clifford-to-transvections-minimal-requires c κs = search needs
 
-told-min-requires : tie.Need-told-min-requires
-told-min-requires c κs = search needs
+tell-requires : tie.Need-tell-requires
+tell-requires c κs = search needs
 
 -- the lent words keep their count
 kept : (c : tie.After-clifford-to-transvections-minimal) → length (c .clifford-to-transvections-minimal .last .1 .1 .1 .0) ≡ c .before .before .before .before .args .n + c .before .before .before .before .args .n + 1
@@ -80,7 +80,7 @@ returns c =
     let s = c .before .before .before .before .before .before .before .before .args in
     let n = s .n in
     let call = c .before .before .before .before .clifford-to-transvections-minimal in
-    let t = c .before .before .told-min in
+    let t = c .before .before .tell in
     let left = call .last .1 .1 .1 .0 in
     let words = take (n + n + 1) (left ++ drop (n + n + 1) (replicate 65 0)) in
     let long = kept (c .before .before .before .before) in
@@ -92,7 +92,7 @@ returns c =
     let short : length words ≤ 130 = omega (arith, ap length front) in
     c .entry-line .ensures
     ∙ line-told n (s .i) Min (t .result) words (search needs) (search needs) reply (search needs) (n + n) (omega arith) short (min-below n rows jobBudget (blankWords (n + n + 1)))
-    (t .ensures .0 ∙ ap (λ (x : Told). x .number) told) (t .ensures .1 ∙ ap (λ (x : Told). x .count) told) (t .ensures .2 ∙ ap (λ (x : Told). x .looks) told)
+    (t .ensures ∙ told)
     (front ∙ call .ensures .1 .0 ∙ ap (λ (out : List ℕ). minimalReply n rows jobBudget out .words) blank)
 
 pub min-answer-spec : {M : Type 1} → statement M
@@ -107,7 +107,7 @@ min-answer-spec =
     array-borrow-prefix-out
     slice-aggregate-clifford-to-transvections-minimal-2
     clifford-to-transvections-minimal-requires
-    told-min-requires
+    tell-requires
     array-share-prefix-out
     slice-aggregate-entry-line
     entry-line-requires

@@ -4,10 +4,13 @@ use mathlib.Core.Path.{refl, _∙_}
 use mathlib.Core.List.{[]}
 use native.Mathlib.Omega.{arith}
 use borrow.Author.Needs.{needs}
-use Rattle.symplectic.specs.Replies.{refused}
+use Rattle.symplectic.specs.Replies.{toldOf, refused}
 use Rattle.printout.proofs.Printing.{line-told}
 use Rattle.printout.proofs.refusal_line.Statement.{statement}
 use Rattle.printout.proofs.refusal_line.Tie as tie
+
+telling-requires : tie.Need-telling-requires
+telling-requires c κs = search needs
 
 array-share-prefix-none : tie.Need-array-share-prefix-none
 array-share-prefix-none c = search needs
@@ -19,13 +22,14 @@ entry-line-requires : tie.Need-entry-line-requires
 entry-line-requires c κs = search needs
 
 returns : tie.Need-returns
-unfolding refused
+unfolding refused toldOf
 returns c =
-    let s = c .before .before .args in
+    let s = c .before .before .before .args in
+    let told = c .before .before .telling in
     c .entry-line .ensures
-    ∙ line-told (s .n) (s .i) (s .which) (record { number = s .number; count = 0; looks = 0 }) [] (search needs) (search needs) (refused (s .number) 0 []) (search needs) 64 (omega arith) (omega arith) tt refl refl refl refl
+    ∙ line-told (s .n) (s .i) (s .which) (told .result) [] (search needs) (search needs) (refused (s .number) 0 []) (search needs) 64 (omega arith) (omega arith) tt (told .ensures) refl
 
 pub refusal-line-spec : {M : Type 1} → statement M
 refusal-line-spec =
     tie.close
-    (tie.spec array-share-prefix-none slice-aggregate-entry-line entry-line-requires returns)
+    (tie.spec telling-requires array-share-prefix-none slice-aggregate-entry-line entry-line-requires returns)

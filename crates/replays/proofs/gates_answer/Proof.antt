@@ -8,14 +8,14 @@ use Rattle.replays.proofs.gates_answer.Tie as tie
 gate-action-requires : tie.Need-gate-action-requires
 gate-action-requires c κs = search needs
 
-of-gates-requires : tie.Need-of-gates-requires
-of-gates-requires c κs = search needs
+tell-requires : tie.Need-tell-requires
+tell-requires c κs = search needs
 
 same-length : tie.Need-same-length
 same-length c = search needs
 
 returns : tie.Need-returns
-returns c = (c .of-gates .ensures ∙ search needs, search needs)
+returns c = (c .tell .ensures ∙ search needs, search needs)
 
 pub gates-answer-spec : {M : Type 1} → statement M
-gates-answer-spec = tie.close (tie.spec gate-action-requires of-gates-requires same-length returns)
+gates-answer-spec = tie.close (tie.spec gate-action-requires tell-requires same-length returns)

@@ -8,15 +8,15 @@ use Rattle.replays.proofs.greedy_answer.Tie as tie
 clifford-to-transvections-requires : tie.Need-clifford-to-transvections-requires
 clifford-to-transvections-requires c κs = search needs
 
-of-listing-requires : tie.Need-of-listing-requires
-of-listing-requires c κs = search needs
+tell-requires : tie.Need-tell-requires
+tell-requires c κs = search needs
 
 same-length : tie.Need-same-length
 same-length c = search needs
 
 returns : tie.Need-returns
-returns c = (c .of-listing .ensures ∙ search needs, search needs)
+returns c = (c .tell .ensures ∙ search needs, search needs)
 
 pub greedy-answer-spec : {M : Type 1} → statement M
 greedy-answer-spec =
-    tie.close (tie.spec clifford-to-transvections-requires of-listing-requires same-length returns)
+    tie.close (tie.spec clifford-to-transvections-requires tell-requires same-length returns)

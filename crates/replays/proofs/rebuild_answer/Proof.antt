@@ -8,14 +8,14 @@ use Rattle.replays.proofs.rebuild_answer.Tie as tie
 rebuild-requires : tie.Need-rebuild-requires
 rebuild-requires c κs = search needs
 
-of-rebuilt-requires : tie.Need-of-rebuilt-requires
-of-rebuilt-requires c κs = search needs
+tell-requires : tie.Need-tell-requires
+tell-requires c κs = search needs
 
 same-length : tie.Need-same-length
 same-length c = search needs
 
 returns : tie.Need-returns
-returns c = (c .of-rebuilt .ensures ∙ search needs, search needs)
+returns c = (c .tell .ensures ∙ search needs, search needs)
 
 pub rebuild-answer-spec : {M : Type 1} → statement M
-rebuild-answer-spec = tie.close (tie.spec rebuild-requires of-rebuilt-requires same-length returns)
+rebuild-answer-spec = tie.close (tie.spec rebuild-requires tell-requires same-length returns)

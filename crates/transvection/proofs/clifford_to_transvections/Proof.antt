@@ -1,4 +1,4 @@
--- `clifford_to_transvections` refuses by the first question that is answered no, by `replied-refused`; else it lays the record in reverse, by `replied-listed`.
+-- `clifford_to_transvections` refuses by the first question that is answered no, by `greedy-refused`; else it lays the record in reverse, by `greedy-listed`.
 -- Assumes nothing.
 use mathlib.Core.Path.{_≡_, refl, sym, ap, ap₂, _∙_}
 use mathlib.Core.List.{List, reverse}
@@ -17,7 +17,7 @@ use Rattle.transvection.specs.declared.Listing.the-variants as listing
 use Rattle.transvection.specs.Greedy.{recorded, greedyList}
 use Rattle.transvection.specs.Answers.{told, turns}
 use Rattle.transvection.proofs.Kept.{turns-length}
-use Rattle.transvection.proofs.Replied.{replied-refused, replied-listed}
+use Rattle.transvection.proofs.Replied.{greedy-refused, greedy-listed}
 use borrow.Author.Needs.{needs}
 use Rattle.transvection.proofs.clifford_to_transvections.Statement.{statement}
 use Rattle.transvection.proofs.clifford_to_transvections.Tie as tie
@@ -60,7 +60,7 @@ returns : tie.Need-returns
 unfolding told toldOf refused numberOf
 returns c =
     let s = c .before .before .before .before .before .args in
-    replied-refused (s .n) (s .rows .now) (s .out .now) 0 listing.TooManyQubits
+    greedy-refused (s .n) (s .rows .now) (s .out .now) 0 (told listing.TooManyQubits)
     (list-refused (s .n) (rowsOfWords (s .rows .now)) (4 * s .n + 2) (length (s .out .now)) 0 (number (c .before .before) TooManyQubits 1 (search (needs, c .enum-told .given)) refl)) refl
 
 enum-told-2 : tie.Need-enum-told-2
@@ -70,7 +70,7 @@ returns-2 : tie.Need-returns-2
 unfolding told toldOf refused numberOf
 returns-2 c =
     let s = c .before .before .before .before .before .args in
-    replied-refused (s .n) (s .rows .now) (s .out .now) 1 listing.WrongRowCount
+    greedy-refused (s .n) (s .rows .now) (s .out .now) 1 (told listing.WrongRowCount)
     (list-refused (s .n) (rowsOfWords (s .rows .now)) (4 * s .n + 2) (length (s .out .now)) 1 (number (c .before .before) WrongRowCount 2 (search (needs, c .enum-told2 .given)) refl)) refl
 
 enum-told-3 : tie.Need-enum-told-3
@@ -80,7 +80,7 @@ returns-3 : tie.Need-returns-3
 unfolding told toldOf refused numberOf
 returns-3 c =
     let s = c .before .before .before .before .before .args in
-    replied-refused (s .n) (s .rows .now) (s .out .now) 2 listing.RowTooWide
+    greedy-refused (s .n) (s .rows .now) (s .out .now) 2 (told listing.RowTooWide)
     (list-refused (s .n) (rowsOfWords (s .rows .now)) (4 * s .n + 2) (length (s .out .now)) 2 (number (c .before .before) RowTooWide 3 (search (needs, c .enum-told3 .given)) refl)) refl
 
 enum-told-4 : tie.Need-enum-told-4
@@ -90,7 +90,7 @@ returns-4 : tie.Need-returns-4
 unfolding told toldOf refused numberOf
 returns-4 c =
     let s = c .before .before .before .before .before .args in
-    replied-refused (s .n) (s .rows .now) (s .out .now) 3 listing.NotSymplectic
+    greedy-refused (s .n) (s .rows .now) (s .out .now) 3 (told listing.NotSymplectic)
     (list-refused (s .n) (rowsOfWords (s .rows .now)) (4 * s .n + 2) (length (s .out .now)) 3 (number (c .before .before) NotSymplectic 4 (search (needs, c .enum-told4 .given)) refl)) refl
 
 enum-told-5 : tie.Need-enum-told-5
@@ -106,7 +106,7 @@ returns-5 : tie.Need-returns-5
 unfolding told toldOf refused
 returns-5 c =
     let s = c .before .before .before .before .before .before .args in
-    replied-refused (s .n) (s .rows .now) (s .out .now) 4 listing.OutputTooShort
+    greedy-refused (s .n) (s .rows .now) (s .out .now) 4 (told listing.OutputTooShort)
     (list-short (s .n) (rowsOfWords (s .rows .now)) (4 * s .n + 2) (length (s .out .now)) (passed (c .before)) (omega arith)) refl
 
 load-requires : tie.Need-load-requires
@@ -136,7 +136,7 @@ returns-6 c =
     let h = few (t .before .before .before) in
     let long : length (r .rows) ≡ 130 = search (needs, unmapped) in
     let asked = list-passed (s .n) F (4 * s .n + 2) (length (s .out .now)) (passed (t .before .before .before)) (omega arith) in
-    replied-listed (s .n) (s .rows .now) (s .out .now) (r .count) (c .before .before .store-reversed .last .1 .0) asked
+    greedy-listed (s .n) (s .rows .now) (s .out .now) (r .count) (c .before .before .store-reversed .last .1 .0) asked
     (sym (turns-length r long (omega (arith, k .1))) ∙ sym (length-reverse (turns r)) ∙ ap length kept)
     (c .before .before .store-reversed .ensures ∙ ap (λ (l : List ℕ). laid l (s .out .now)) kept)
 

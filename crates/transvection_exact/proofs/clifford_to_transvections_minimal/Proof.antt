@@ -1,4 +1,4 @@
--- `clifford_to_transvections_minimal` refuses by the first question that is answered no, by `meets-early` and `meets-refused`; else it answers what `searched` does, by `meets-searched`.
+-- `clifford_to_transvections_minimal` refuses by the first question that is answered no, by `minimal-early` and `minimal-refused`; else it answers what `searched` does, by `minimal-searched`.
 -- Assumes nothing.
 use mathlib.Core.Path.{_≡_, refl, sym, ap, ap₂, _∙_}
 use mathlib.Core.List.{List}
@@ -16,7 +16,7 @@ use Rattle.triangular.specs.Search.{budgeted}
 use Rattle.transvection_exact.specs.declared.Minimal.the-variants as minimal
 use Rattle.transvection_exact.specs.Minimal.{coreSearch, searchedReply}
 use Rattle.transvection_exact.specs.Answers.{told}
-use Rattle.transvection_exact.proofs.Answered.{meets-refused, meets-early, meets-searched}
+use Rattle.transvection_exact.proofs.Answered.{minimal-refused, minimal-early, minimal-searched}
 use borrow.Author.Needs.{needs}
 use Rattle.transvection_exact.proofs.clifford_to_transvections_minimal.Statement.{statement}
 use Rattle.transvection_exact.proofs.clifford_to_transvections_minimal.Tie as tie
@@ -45,7 +45,7 @@ returns : tie.Need-returns
 unfolding told toldOf refused numberOf
 returns c =
     let s = c .before .before .before .before .before .args in
-    meets-early (s .n) (s .rows .now) (s .budget) (s .out .now) 0 minimal.TooManyQubits (number (c .before .before) TooManyQubits 1 (search (needs, c .enum-told .given)) refl) refl
+    minimal-early (s .n) (s .rows .now) (s .budget) (s .out .now) 0 (told minimal.TooManyQubits) (number (c .before .before) TooManyQubits 1 (search (needs, c .enum-told .given)) refl) refl
 
 enum-told-2 : tie.Need-enum-told-2
 enum-told-2 c = search needs
@@ -54,7 +54,7 @@ returns-2 : tie.Need-returns-2
 unfolding told toldOf refused numberOf
 returns-2 c =
     let s = c .before .before .before .before .before .args in
-    meets-early (s .n) (s .rows .now) (s .budget) (s .out .now) 1 minimal.WrongRowCount (number (c .before .before) WrongRowCount 2 (search (needs, c .enum-told2 .given)) refl) refl
+    minimal-early (s .n) (s .rows .now) (s .budget) (s .out .now) 1 (told minimal.WrongRowCount) (number (c .before .before) WrongRowCount 2 (search (needs, c .enum-told2 .given)) refl) refl
 
 enum-told-3 : tie.Need-enum-told-3
 enum-told-3 c = search needs
@@ -63,7 +63,7 @@ returns-3 : tie.Need-returns-3
 unfolding told toldOf refused numberOf
 returns-3 c =
     let s = c .before .before .before .before .before .args in
-    meets-early (s .n) (s .rows .now) (s .budget) (s .out .now) 2 minimal.RowTooWide (number (c .before .before) RowTooWide 3 (search (needs, c .enum-told3 .given)) refl) refl
+    minimal-early (s .n) (s .rows .now) (s .budget) (s .out .now) 2 (told minimal.RowTooWide) (number (c .before .before) RowTooWide 3 (search (needs, c .enum-told3 .given)) refl) refl
 
 enum-told-4 : tie.Need-enum-told-4
 enum-told-4 c = search needs
@@ -72,7 +72,7 @@ returns-4 : tie.Need-returns-4
 unfolding told toldOf refused numberOf
 returns-4 c =
     let s = c .before .before .before .before .before .args in
-    meets-early (s .n) (s .rows .now) (s .budget) (s .out .now) 3 minimal.NotSymplectic (number (c .before .before) NotSymplectic 4 (search (needs, c .enum-told4 .given)) refl) refl
+    minimal-early (s .n) (s .rows .now) (s .budget) (s .out .now) 3 (told minimal.NotSymplectic) (number (c .before .before) NotSymplectic 4 (search (needs, c .enum-told4 .given)) refl) refl
 
 enum-told-5 : tie.Need-enum-told-5
 enum-told-5 c = search needs
@@ -87,7 +87,7 @@ returns-5 : tie.Need-returns-5
 unfolding told toldOf refused
 returns-5 c =
     let s = c .before .before .before .before .before .before .args in
-    meets-refused (s .n) (s .rows .now) (s .budget) (s .out .now) 4 minimal.OutputTooShort
+    minimal-refused (s .n) (s .rows .now) (s .budget) (s .out .now) 4 (told minimal.OutputTooShort)
     (list-short (s .n) (rowsOfWords (s .rows .now)) (s .n + s .n + 1) (length (s .out .now)) (passed (c .before)) (omega arith)) refl
 
 load-requires : tie.Need-load-requires
@@ -108,7 +108,7 @@ returns-6 c =
     let e = c .before .before .searched in
     let same = loaded (l .result) (s .n) F (few t) (passed-count (s .n) F (passed t)) (l .ensures .0) (l .ensures .1) in
     let w = ap₂ (λ (m : ℕ) (G : List ℕ). searchedReply m G (budgeted (s .budget) (coreSearch m G)) (s .out .now)) (same .0) (same .1) in
-    meets-searched (s .n) (s .rows .now) (s .budget) (s .out .now) (e .last .1 .1 .0) (e .result)
+    minimal-searched (s .n) (s .rows .now) (s .budget) (s .out .now) (e .last .1 .1 .0) (told (e .result))
     (list-passed (s .n) F (s .n + s .n + 1) (length (s .out .now)) (passed t) (omega arith))
     (e .ensures .0 ∙ ap toldOf w)
     (e .ensures .1 ∙ ap (λ (x : Reply). x .words) w)

@@ -1,0 +1,52 @@
+-- `turnlist_gates` answers what `gate_action` tells, and leaves a refused call's numbers as they were, by `lent-rebuilds`.
+-- Assumes nothing.
+use mathlib.Core.Path.{refl, sym, subst}
+use Rattle.symplectic.specs.Replies.{Rebuilds}
+use Rattle.symplectic.proofs.Answered.{Meets}
+use Rattle.gates.specs.Sequences.{sequenceTurns, gatesReply}
+use Rattle.cabi.proofs.Lent.{lent-rebuilds}
+use borrow.Author.Needs.{needs}
+use Rattle.cabi.proofs.turnlist_gates.Statement.{statement}
+use Rattle.cabi.proofs.turnlist_gates.Tie as tie
+
+gate-action-requires : tie.Need-gate-action-requires
+gate-action-requires c κs = search needs
+
+tell-requires : tie.Need-tell-requires
+tell-requires c κs = search needs
+
+-- what the call promises, of what it tells
+met : (c : tie.After-tell) → let s = c .before .before .before .before .before .before .before .args in
+    Meets (Rebuilds (s .n) (sequenceTurns (s .n) (s .gates .now))) (gatesReply (s .n) (s .gates .now) (s .out .now)) (c .before .before .before .gate-action .last .1 .1 .0) (c .tell .result)
+met c =
+    let s = c .before .before .before .before .before .before .before .args in
+    subst (Meets (Rebuilds (s .n) (sequenceTurns (s .n) (s .gates .now))) (gatesReply (s .n) (s .gates .now) (s .out .now)) (c .before .before .before .gate-action .last .1 .1 .0)) (sym (c .tell .ensures)) (c .before .before .before .gate-action .ensures)
+
+same-length : tie.Need-same-length
+same-length c = search needs
+
+returns : tie.Need-returns
+returns c =
+    let s = c .before .before .before .before .before .before .before .before .before .args in
+    let t = c .before .before .tell .result in
+    lent-rebuilds (gatesReply (s .n) (s .gates .now) (s .out .now)) (c .before .before .before .before .before .gate-action .last .1 .1 .0) t (s .count .now) (t .count) (λ z. refl, λ h. absurd (h (c .if1 .taken))) (s .n) (sequenceTurns (s .n) (s .gates .now)) (met (c .before .before))
+
+same-length-2 : tie.Need-same-length-2
+same-length-2 c = search needs
+
+returns-2 : tie.Need-returns-2
+returns-2 c =
+    let s = c .before .before .before .before .before .before .before .before .before .args in
+    let t = c .before .before .tell .result in
+    lent-rebuilds (gatesReply (s .n) (s .gates .now) (s .out .now)) (c .before .before .before .before .before .gate-action .last .1 .1 .0) t (s .count .now) (s .count .now) (λ z. absurd (c .if1 .left z), λ h. refl) (s .n) (sequenceTurns (s .n) (s .gates .now)) (met (c .before .before))
+
+pub turnlist-gates-spec : {M : Type 1} → statement M
+turnlist-gates-spec =
+    tie.close
+    (tie.spec
+    gate-action-requires
+    tell-requires
+    same-length
+    returns
+    same-length-2
+    returns-2)

@@ -1,0 +1,88 @@
+// The calls by C's conventions: each returns 0, or the number of the first question that is answered no, and then leaves every lent
+// word as it was. include/turnlist.h says the same to C.
+ghost use mathlib.Core.Path.{_≡_};
+ghost use Prim.Native.Nat.{_*_, _≤_};
+ghost use Rattle.blocks.specs.Words.{rowsOfWords};
+ghost use Rattle.symplectic.specs.Replies.{Replays, Rebuilds};
+ghost use Rattle.rebuild.specs.Rebuilds.{rebuildReply};
+ghost use Rattle.transvection.specs.Greedy.{greedyReply};
+ghost use Rattle.transvection_exact.specs.Minimal.{minimalReply};
+ghost use Rattle.transvection_exact.specs.Answers.{Shortest, Exact};
+ghost use Rattle.gates.specs.Sequences.{sequenceTurns, gatesReply};
+ghost use Rattle.cabi.specs.Lent.{given, toldBy};
+
+// The minimal list of an action, and the looks of its search.
+#[no_mangle]
+pub extern "C" fn turnlist_minimal(
+    n: u64,
+    rows: &[u64],
+    budget: u64,
+    out: &mut [u64],
+    count: &mut u64,
+    looks: &mut u64,
+) -> u64
+    ensures answered { λ r. ⌜ r ≡ minimalReply n (now (rows .entry)) budget (now (out .entry)) .number ⌝ }
+    ensures left { λ r. ⌜ now (out .exit) ≡ minimalReply n (now (rows .entry)) budget (now (out .entry)) .words ⌝ }
+    ensures counted { λ r. ⌜ now (count .exit) ≡ given r (minimalReply n (now (rows .entry)) budget (now (out .entry)) .count) (now (count .entry)) ⌝ }
+    ensures drawn { λ r. ⌜ now (looks .exit) ≡ given r (minimalReply n (now (rows .entry)) budget (now (out .entry)) .looks) (now (looks .entry)) ⌝ }
+    ensures replays { λ r. ⌜ Replays n (now (rows .entry)) (now (out .exit)) (toldBy budget r (now (count .exit)) (now (looks .exit))) ⌝ }
+    ensures shortest { λ r. ⌜ Shortest n (now (rows .entry)) (toldBy budget r (now (count .exit)) (now (looks .exit))) ⌝ }
+    ensures exact { λ r. ⌜ Exact n (now (rows .entry)) budget (now (out .entry)) (toldBy budget r (now (count .exit)) (now (looks .exit))) ⌝ }
+{
+    let answer = transvection_exact::clifford_to_transvections_minimal(n, rows, budget, out);
+    let least = transvection_exact::tell(answer);
+    if least.number == 0 {
+        *count = least.count;
+        *looks = least.looks;
+    }
+    least.number
+}
+
+// The greedy list of an action.
+#[no_mangle]
+pub extern "C" fn turnlist_greedy(n: u64, rows: &[u64], out: &mut [u64], count: &mut u64) -> u64
+    ensures answered { λ r. ⌜ r ≡ greedyReply n (now (rows .entry)) (now (out .entry)) .number ⌝ }
+    ensures left { λ r. ⌜ now (out .exit) ≡ greedyReply n (now (rows .entry)) (now (out .entry)) .words ⌝ }
+    ensures counted { λ r. ⌜ now (count .exit) ≡ given r (greedyReply n (now (rows .entry)) (now (out .entry)) .count) (now (count .entry)) ⌝ }
+    ensures replays { λ r. ⌜ Replays n (now (rows .entry)) (now (out .exit)) (toldBy 0 r (now (count .exit)) 0) ⌝ }
+    ensures few { λ r. ⌜ toldBy 0 r (now (count .exit)) 0 .count ≤ 4 * n ⌝ }
+{
+    let answer = transvection::clifford_to_transvections(n, rows, out);
+    let greedy = transvection::tell(answer);
+    if greedy.number == 0 {
+        *count = greedy.count;
+    }
+    greedy.number
+}
+
+// The product of a list.
+#[no_mangle]
+pub extern "C" fn turnlist_rebuild(n: u64, vectors: &[u64], out: &mut [u64], count: &mut u64) -> u64
+    ensures answered { λ r. ⌜ r ≡ rebuildReply n (now (vectors .entry)) (now (out .entry)) .number ⌝ }
+    ensures left { λ r. ⌜ now (out .exit) ≡ rebuildReply n (now (vectors .entry)) (now (out .entry)) .words ⌝ }
+    ensures counted { λ r. ⌜ now (count .exit) ≡ given r (rebuildReply n (now (vectors .entry)) (now (out .entry)) .count) (now (count .entry)) ⌝ }
+    ensures replays { λ r. ⌜ Rebuilds n (rowsOfWords (now (vectors .entry))) (now (out .exit)) (toldBy 0 r (now (count .exit)) 0) ⌝ }
+{
+    let answer = rebuild::rebuild(n, vectors, out);
+    let product = rebuild::tell(answer);
+    if product.number == 0 {
+        *count = product.count;
+    }
+    product.number
+}
+
+// The action of a gate sequence, three bytes a gate.
+#[no_mangle]
+pub extern "C" fn turnlist_gates(n: u64, gates: &[u8], out: &mut [u64], count: &mut u64) -> u64
+    ensures answered { λ r. ⌜ r ≡ gatesReply n (now (gates .entry)) (now (out .entry)) .number ⌝ }
+    ensures left { λ r. ⌜ now (out .exit) ≡ gatesReply n (now (gates .entry)) (now (out .entry)) .words ⌝ }
+    ensures counted { λ r. ⌜ now (count .exit) ≡ given r (gatesReply n (now (gates .entry)) (now (out .entry)) .count) (now (count .entry)) ⌝ }
+    ensures replays { λ r. ⌜ Rebuilds n (sequenceTurns n (now (gates .entry))) (now (out .exit)) (toldBy 0 r (now (count .exit)) 0) ⌝ }
+{
+    let answer = gates::gate_action(n, gates, out);
+    let action = gates::tell(answer);
+    if action.number == 0 {
+        *count = action.count;
+    }
+    action.number
+}
