@@ -1,0 +1,37 @@
+"""A layer by its gates, its two turn lists, the action rebuilt from each, and a refusal. Run it by examples/run-python."""
+import sys
+
+from turnlist import CX, H, Refusal, Turnlist
+
+N = 3
+
+
+def letters(vectors):
+    """The vectors as letters, qubit 0 first."""
+    return " ".join("".join("IXZY"[v >> q & 1 | (v >> N + q & 1) << 1] for q in range(N)) for v in vectors)
+
+
+def main(path):
+    library = Turnlist(path)
+
+    def compared(turns):
+        return "the same action" if library.rebuild(N, turns) == action else "another action"
+
+    action = library.gates(N, [(H, 0, 0), (CX, 1, 2)])
+    print(f"layer on {N} qubits: H 0, CX 1 2")
+
+    minimal, looks = library.minimal(N, action, 1_000_000)
+    print(f"minimal: {len(minimal)} turns, {looks} looks: {letters(minimal)}")
+    print(f"rebuilt from the minimal list: {compared(minimal)}")
+
+    greedy = library.greedy(N, action)
+    print(f"greedy: {len(greedy)} turns: {letters(greedy)}")
+    print(f"rebuilt from the greedy list: {compared(greedy)}")
+
+    try:
+        library.minimal(N, action, looks - 1)
+    except Refusal as refusal:
+        print(f"minimal with one look too few: {refusal}")
+
+
+main(sys.argv[1])

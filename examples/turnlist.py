@@ -1,0 +1,91 @@
+"""The calls of include/turnlist.h, from a shared object. Lists of numbers go in; an answer is a list of as many words as were
+written, and a refusal is raised."""
+import ctypes
+
+H, S, ROOT_X, CX, CZ, SWAP = range(6)
+MOST_QUBITS = 32
+MEANINGS = (
+    "an answer",
+    "more than 32 qubits",
+    "not exactly 2n rows",
+    "a row with bits from 2n up",
+    "the rows are not symplectic",
+    "too few output words",
+    "the search would look further than the budget",
+    "the bordered candidate did not pass",
+    "a vector with bits from 2n up",
+    "no such gate",
+    "a qubit that is not there",
+    "two equal qubits",
+)
+WORD = ctypes.c_uint64
+WORDS = ctypes.POINTER(WORD)
+BYTES = ctypes.POINTER(ctypes.c_uint8)
+LENGTH = ctypes.c_size_t
+
+
+class Refusal(Exception):
+    """The first question that was answered no."""
+
+    def __init__(self, number):
+        super().__init__(f"refused, {number}: {MEANINGS[number]}")
+        self.number = number
+
+
+def lent(kind, numbers, bound):
+    """The numbers as an array of words or bytes; ctypes alone would cut a number to its width."""
+    for number in numbers:
+        if not 0 <= number < bound:
+            raise ValueError(f"{number} is not from 0 to {bound - 1}")
+    return (kind * len(numbers))(*numbers)
+
+
+def words(numbers):
+    return lent(WORD, numbers, 1 << 64)
+
+
+def word(number):
+    return words([number])[0]
+
+
+class Turnlist:
+    def __init__(self, path):
+        library = ctypes.CDLL(path)
+        lending = [WORDS, LENGTH, WORDS]
+        self._minimal = self._call(library.turnlist_minimal, [WORD, WORDS, LENGTH, WORD, *lending, WORDS])
+        self._greedy = self._call(library.turnlist_greedy, [WORD, WORDS, LENGTH, *lending])
+        self._rebuild = self._call(library.turnlist_rebuild, [WORD, WORDS, LENGTH, *lending])
+        self._gates = self._call(library.turnlist_gates, [WORD, BYTES, LENGTH, *lending])
+
+    @staticmethod
+    def _call(function, argtypes):
+        function.argtypes, function.restype = argtypes, WORD
+        return function
+
+    @staticmethod
+    def _written(call, room, *arguments, told=()):
+        """Lends room for an answer; what was written of it."""
+        out, count = (WORD * room)(), WORD()
+        number = call(*arguments, out, room, ctypes.byref(count), *told)
+        if number:
+            raise Refusal(number)
+        return out[: count.value]
+
+    def minimal(self, n, rows, budget):
+        """A list of turns whose product is the action, of which none is shorter; and the looks of its search."""
+        looks = WORD()
+        turns = self._written(self._minimal, 2 * MOST_QUBITS + 1, word(n), words(rows), len(rows), word(budget), told=[looks])
+        return turns, looks.value
+
+    def greedy(self, n, rows):
+        """A list of turns whose product is the action, quickly found."""
+        return self._written(self._greedy, 4 * MOST_QUBITS + 2, word(n), words(rows), len(rows))
+
+    def rebuild(self, n, vectors):
+        """The 2n rows of the product of any list."""
+        return self._written(self._rebuild, 2 * min(n, MOST_QUBITS), word(n), words(vectors), len(vectors))
+
+    def gates(self, n, gates):
+        """The 2n rows of the action of a sequence of gates, each its number, a and b; gates on one qubit do not read b."""
+        flat = lent(ctypes.c_uint8, [part for number, a, b in gates for part in (number, a, b)], 256)
+        return self._written(self._gates, 2 * min(n, MOST_QUBITS), word(n), flat, len(flat))

@@ -1,0 +1,150 @@
+//! The calls of `include/turnlist.h` as safe functions. Slices go in; the words that a call writes are lent from here, and
+//! an answer is a `Vec` of as many words as were written.
+use std::fmt;
+
+pub const H: u8 = 0;
+pub const S: u8 = 1;
+pub const ROOT_X: u8 = 2;
+pub const CX: u8 = 3;
+pub const CZ: u8 = 4;
+pub const SWAP: u8 = 5;
+
+/// A gate's number, a and b. Gates on one qubit do not read b.
+pub type Gate = [u8; 3];
+
+const MOST_QUBITS: usize = 32;
+
+/// The minimal list, and the looks of its search.
+pub struct Minimal {
+    pub turns: Vec<u64>,
+    pub looks: u64,
+}
+
+/// The first question that was answered no. `OutputTooShort` is never met here.
+#[derive(Clone, Copy, Debug, PartialEq, Eq)]
+pub enum Refusal {
+    TooManyQubits = 1,
+    WrongRowCount,
+    RowTooWide,
+    NotSymplectic,
+    OutputTooShort,
+    Spent,
+    NotBordered,
+    VectorTooWide,
+    UnknownGate,
+    QubitTooHigh,
+    EqualQubits,
+}
+
+impl Refusal {
+    const ALL: [Refusal; 11] = [
+        Refusal::TooManyQubits,
+        Refusal::WrongRowCount,
+        Refusal::RowTooWide,
+        Refusal::NotSymplectic,
+        Refusal::OutputTooShort,
+        Refusal::Spent,
+        Refusal::NotBordered,
+        Refusal::VectorTooWide,
+        Refusal::UnknownGate,
+        Refusal::QubitTooHigh,
+        Refusal::EqualQubits,
+    ];
+
+    pub fn meaning(self) -> &'static str {
+        match self {
+            Refusal::TooManyQubits => "more than 32 qubits",
+            Refusal::WrongRowCount => "not exactly 2n rows",
+            Refusal::RowTooWide => "a row with bits from 2n up",
+            Refusal::NotSymplectic => "the rows are not symplectic",
+            Refusal::OutputTooShort => "too few output words",
+            Refusal::Spent => "the search would look further than the budget",
+            Refusal::NotBordered => "the bordered candidate did not pass",
+            Refusal::VectorTooWide => "a vector with bits from 2n up",
+            Refusal::UnknownGate => "no such gate",
+            Refusal::QubitTooHigh => "a qubit that is not there",
+            Refusal::EqualQubits => "two equal qubits",
+        }
+    }
+}
+
+impl fmt::Display for Refusal {
+    fn fmt(&self, f: &mut fmt::Formatter) -> fmt::Result {
+        write!(f, "refused, {}: {}", *self as u64, self.meaning())
+    }
+}
+
+impl std::error::Error for Refusal {}
+
+/// A list of turns whose product is the action; no list of it is shorter.
+pub fn minimal(n: u64, rows: &[u64], budget: u64) -> Result<Minimal, Refusal> {
+    let mut out = [0; 2 * MOST_QUBITS + 1];
+    let (mut count, mut looks) = (0, 0);
+    // SAFETY: each pointer goes with the length of its own slice, and what is lent for writing is local.
+    let reply = unsafe {
+        turnlist_minimal(n, rows.as_ptr(), rows.len(), budget, out.as_mut_ptr(), out.len(), &mut count, &mut looks)
+    };
+    let turns = written(reply, &out, count)?;
+    Ok(Minimal { turns, looks })
+}
+
+/// A list of turns whose product is the action, quickly found.
+pub fn greedy(n: u64, rows: &[u64]) -> Result<Vec<u64>, Refusal> {
+    let mut out = [0; 4 * MOST_QUBITS + 2];
+    let mut count = 0;
+    // SAFETY: as in `minimal`.
+    let reply = unsafe { turnlist_greedy(n, rows.as_ptr(), rows.len(), out.as_mut_ptr(), out.len(), &mut count) };
+    written(reply, &out, count)
+}
+
+/// The 2n rows of the product of any list.
+pub fn rebuild(n: u64, vectors: &[u64]) -> Result<Vec<u64>, Refusal> {
+    let mut out = [0; 2 * MOST_QUBITS];
+    let mut count = 0;
+    // SAFETY: as in `minimal`; `row_count` is at most the length of `out`.
+    let reply = unsafe {
+        turnlist_rebuild(n, vectors.as_ptr(), vectors.len(), out.as_mut_ptr(), row_count(n), &mut count)
+    };
+    written(reply, &out, count)
+}
+
+/// The 2n rows of the action of a sequence of gates.
+pub fn gates(n: u64, gates: &[Gate]) -> Result<Vec<u64>, Refusal> {
+    let bytes = gates.as_flattened();
+    let mut out = [0; 2 * MOST_QUBITS];
+    let mut count = 0;
+    // SAFETY: as in `rebuild`.
+    let reply = unsafe {
+        turnlist_gates(n, bytes.as_ptr(), bytes.len(), out.as_mut_ptr(), row_count(n), &mut count)
+    };
+    written(reply, &out, count)
+}
+
+/// 2n; 0 where n is above 32, which the call refuses.
+fn row_count(n: u64) -> usize {
+    if n <= MOST_QUBITS as u64 { 2 * n as usize } else { 0 }
+}
+
+/// What an answer wrote, or the refusal.
+fn written(reply: u64, out: &[u64], count: u64) -> Result<Vec<u64>, Refusal> {
+    match reply {
+        0 => Ok(out[..count as usize].to_vec()),
+        number => Err(Refusal::ALL[number as usize - 1]),
+    }
+}
+
+extern "C" {
+    fn turnlist_minimal(
+        n: u64,
+        rows: *const u64,
+        row_count: usize,
+        budget: u64,
+        out: *mut u64,
+        out_len: usize,
+        count: *mut u64,
+        looks: *mut u64,
+    ) -> u64;
+    fn turnlist_greedy(n: u64, rows: *const u64, row_count: usize, out: *mut u64, out_len: usize, count: *mut u64) -> u64;
+    fn turnlist_rebuild(n: u64, vectors: *const u64, vector_count: usize, out: *mut u64, out_len: usize, count: *mut u64) -> u64;
+    fn turnlist_gates(n: u64, gates: *const u8, byte_count: usize, out: *mut u64, out_len: usize, count: *mut u64) -> u64;
+}

@@ -1,0 +1,102 @@
+/* Turn lists for Clifford layers: the calls by C's conventions, for C99 and C++.
+ *
+ * Link with target/staticlib/libcabi.a, which `rt staticlib cabi` writes (x86-64 Linux):
+ *
+ *     cc -Iinclude program.c -Ltarget/staticlib -lcabi
+ *
+ * n is the qubit count, 0 to 32. A vector is a 64-bit word: bit q is the x of qubit q, bit n + q its z, all others 0.
+ * An action is 2n vectors, its rows: row k is the image of basis vector k. The turn of v sends u to u + <u,v>v, where
+ * <u,v> is the sum modulo 2 of u's x times v's z and u's z times v's x over all qubits. The product of a list starts
+ * from the identity and applies the turns in order.
+ *
+ * Each call asks its questions in the order of its refusals below, and returns the number of the first one answered no.
+ *
+ *   - 0: an answer. *count says how many words stand at the start of out, and the words past them are unchanged.
+ *   - Any other number: a refusal. Every lent word is unchanged, *count and *looks too. The count of a refusal is 0.
+ *
+ * What the caller owes, and nothing checks:
+ *
+ *   - Each pointer is aligned, and valid for as many words (gates: bytes) as the length behind it says. Where
+ *     that length is 0 the pointer is not followed, and may be null. count and looks are never null.
+ *   - What is lent for writing (out, count, looks) overlaps nothing else that is lent, and no other thread touches it
+ *     during the call. What is lent for reading is not written during the call.
+ *   - The thread has stack to spare: 512 KiB are enough for turnlist_minimal, 16 KiB for the others.
+ *
+ * The calls keep nothing from one call to the next, so that threads may call at the same time. */
+#ifndef TURNLIST_H_INCLUDED
+#define TURNLIST_H_INCLUDED
+
+#include <stddef.h>
+#include <stdint.h>
+
+#ifdef __cplusplus
+extern "C" {
+#endif
+
+#define TURNLIST_MOST_QUBITS 32
+
+/* How many words an action takes, and how many output words the two lists want. */
+#define TURNLIST_ROWS(n) (2 * (n))
+#define TURNLIST_MINIMAL_WORDS(n) (2 * (n) + 1)
+#define TURNLIST_GREEDY_WORDS(n) (4 * (n) + 2)
+
+/* What a call returns. */
+enum turnlist_reply {
+    TURNLIST_ANSWERED = 0,
+    TURNLIST_TOO_MANY_QUBITS = 1,  /* n is more than 32 */
+    TURNLIST_WRONG_ROW_COUNT = 2,  /* not exactly 2n rows are lent */
+    TURNLIST_ROW_TOO_WIDE = 3,     /* a row has a bit from 2n up */
+    TURNLIST_NOT_SYMPLECTIC = 4,   /* the rows do not pair as the basis does */
+    TURNLIST_OUTPUT_TOO_SHORT = 5, /* too few output words */
+    TURNLIST_SPENT = 6,            /* the search would look further than the budget */
+    TURNLIST_NOT_BORDERED = 7,     /* the bordered candidate does not pass */
+    TURNLIST_VECTOR_TOO_WIDE = 8,  /* a vector has a bit from 2n up */
+    TURNLIST_UNKNOWN_GATE = 9,     /* a gate number above 5 */
+    TURNLIST_QUBIT_TOO_HIGH = 10,  /* a qubit that is not below n */
+    TURNLIST_EQUAL_QUBITS = 11     /* the two qubits of a gate are equal */
+};
+
+/* The gates that turnlist_gates knows. */
+enum turnlist_gate {
+    TURNLIST_H = 0,      /* a */
+    TURNLIST_S = 1,      /* a */
+    TURNLIST_ROOT_X = 2, /* a */
+    TURNLIST_CX = 3,     /* a b */
+    TURNLIST_CZ = 4,     /* a b */
+    TURNLIST_SWAP = 5    /* a b */
+};
+
+/* The minimal list of an action: *count turns whose product is the action, and no list of it is shorter.
+ *
+ * A look is one vector drawn by the search. *looks is how many the search drew, at most the budget.
+ *
+ * Wants 2n rows and at least 2n + 1 output words. Refuses with 1 to 7. The looks of a refusal are 0, but at 6 they are
+ * the budget, and at 7 they were drawn and are not told. */
+uint64_t turnlist_minimal(uint64_t n, const uint64_t *rows, size_t row_count, uint64_t budget,
+                          uint64_t *out, size_t out_len, uint64_t *count, uint64_t *looks);
+
+/* The greedy list of an action: *count turns, at most 4n, whose product is the action.
+ *
+ * Wants 2n rows and at least 4n + 2 output words. Refuses with 1 to 5. */
+uint64_t turnlist_greedy(uint64_t n, const uint64_t *rows, size_t row_count,
+                         uint64_t *out, size_t out_len, uint64_t *count);
+
+/* The product of any list of vectors: its 2n rows, and *count is 2n. A zero vector changes nothing.
+ *
+ * Wants exactly 2n output words. Refuses with 1, 2 (of the output words), 8. */
+uint64_t turnlist_rebuild(uint64_t n, const uint64_t *vectors, size_t vector_count,
+                          uint64_t *out, size_t out_len, uint64_t *count);
+
+/* The action of a sequence of gates: its 2n rows, and *count is 2n.
+ *
+ * A gate is 3 bytes: its number, a, b. Gates on one qubit do not read b. Bytes short of a last whole gate are not read.
+ *
+ * Wants exactly 2n output words. Refuses with 1, 2 (of the output words); then gate by gate with 9, 10, 11. */
+uint64_t turnlist_gates(uint64_t n, const uint8_t *gates, size_t byte_count,
+                        uint64_t *out, size_t out_len, uint64_t *count);
+
+#ifdef __cplusplus
+}
+#endif
+
+#endif
