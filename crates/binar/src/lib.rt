@@ -1,6 +1,6 @@
 // Rows of bits: one word each, known above by their value alone.
 ghost use mathlib.Core.Path.{_≡_};
-ghost use Prim.Native.Nat.{_+_, _-_, _/_, _%_, _^_, _<_};
+ghost use Prim.Native.Nat.{_+_, _-_, _*_, _/_, _%_, _^_, _<_};
 ghost use lib.Dec.{eqb, ltb};
 ghost use Rattle.binar.specs.Bits.{_⊕_, bit as bitOf, dot as dotOf, weight as weightOf};
 ghost use Rattle.binar.specs.Rows.{val, width, unit as unitOf, lowest as lowestOf};
@@ -121,6 +121,18 @@ pub fn shift_down(a: Row, k: usize) -> Row
     let w = a.word;
     if k < 64 {
         Row { word: w >> k }
+    } else {
+        Row { word: 0 }
+    }
+}
+
+// Each column k higher.
+pub fn shift_up(a: Row, k: usize) -> Row
+    ensures { λ r. ⌜ val r ≡ val a * 2 ^ k % 2 ^ width ⌝ }
+{
+    let w = a.word;
+    if k < 64 {
+        Row { word: w << k }
     } else {
         Row { word: 0 }
     }

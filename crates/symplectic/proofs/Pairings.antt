@@ -1,20 +1,20 @@
 -- The pairing of n qubits: the dot with the exchanged vector, additive, symmetric, zero on the diagonal, and zero with every vector for 0 alone.
 -- Assumes nothing.
 use mathlib.Core.Path.{_≡_, sym, ap, ap₂, _∙_}
-use mathlib.Core.Bool.{false}
-use Prim.Native.Nat.{ℕ, _+_, _*_, _/_, _%_, _^_, _<_}
+use mathlib.Core.Bool.{Bool, false}
+use Prim.Native.Nat.{ℕ, _+_, _-_, _*_, _/_, _%_, _^_, _≤_, _<_}
 use native.Mathlib.Nat.{mod-lt, mod-eq-of-lt, div-eq-of-lt, zero-mod, mul-assoc, mul-mod-left, add-zero}
 use native.Mathlib.Omega.{arith}
 use lib.Arith.{digits-lt}
-use lib.Pow.{pow-pos, pow-lt, pow-add, mod-pow-add, split, shl-shr, high, low}
-use Rattle.binar.specs.Bits.{_⊻_, bit, _⊕_, dot}
-use Rattle.binar.proofs.Sums.{bxor-comm, bxor-self, sum-low, sum-down, sum-parts, by-parts, same-bits, bit-of-zero}
+use lib.Pow.{pow-pos, pow-lt, pow-mono, pow-add, mod-pow-add, split, shl-shr, high, low}
+use Rattle.binar.specs.Bits.{_⊻_, select, bit, _⊕_, dot}
+use Rattle.binar.proofs.Sums.{bxor-comm, bxor-self, sum-zero, zero-sum, sum-low, sum-down, sum-parts, by-parts, same-bits, bit-of-zero}
 use Rattle.binar.proofs.Dots.{dot-comm, dot-sum, dot-zero, dot-parts}
 use Rattle.binar.proofs.Ones.{dot-unit}
 use Rattle.linear.specs.Maps.{Pairing}
 use Rattle.linear.proofs.Instances.{𝔹, 𝕎}
 use Rattle.linear.proofs.Maps.{map-o}
-use Rattle.symplectic.specs.Turns.{xBits, zBits, pairing, swapHalves}
+use Rattle.symplectic.specs.Turns.{xBits, zBits, pairing, turn, swapHalves}
 
 -- ---- the two halves
 
@@ -74,6 +74,19 @@ pub swap-over : (n h : ℕ) → swapHalves n (h * 2 ^ (n + n)) ≡ 0
 unfolding swapHalves
 swap-over n h = ap₂ (λ s t. s * 2 ^ n + t) (x-over n h) (z-over n h) ∙ omega arith
 
+-- by its halves, in rows of w columns
+pub swap-rows : (w n v : ℕ) → n + n ≤ w → (xBits n v * 2 ^ n % 2 ^ w) ⊕ zBits n v ≡ swapHalves n v
+unfolding swapHalves
+swap-rows w n v h =
+    let x = xBits n v in
+    let z = zBits n v in
+    let fits : x * 2 ^ n < 2 ^ w = omega (arith, swap-lt n v, pow-mono h) in
+    ap₂ _⊕_ (mod-eq-of-lt fits ∙ sym (add-zero (x * 2 ^ n))) zero-high ∙ sum-parts n x 0 0 z (pow-pos n) (z-lt n v)
+    ∙ ap₂ (λ s t. s * 2 ^ n + t) (sum-zero x) (zero-sum z)
+  where
+    zero-high : zBits n v ≡ 0 * 2 ^ n + zBits n v
+    zero-high = omega arith
+
 -- of one half alone
 pub swap-low : (n u : ℕ) → u < 2 ^ n → swapHalves n u ≡ u * 2 ^ n
 unfolding swapHalves xBits zBits
@@ -114,6 +127,29 @@ unfolding pairing
 pairing-comm n u v =
     ap₂ _⊻_ (dot-comm (xBits n u) (zBits n v)) (dot-comm (zBits n u) (xBits n v))
     ∙ bxor-comm (dot (zBits n v) (xBits n u)) (dot (xBits n v) (zBits n u))
+
+-- as a row with its halves exchanged gives them: of two rows, of two basis vectors, and of a turn
+pub swap-pairing : (n u v : ℕ) → dot v (swapHalves n u) ≡ pairing n u v
+swap-pairing n u v = sym (pairing-dot n v u) ∙ pairing-comm n v u
+
+pub swap-basis : (n i j : ℕ) → bit j (swapHalves n (2 ^ i)) ≡ pairing n (2 ^ i) (2 ^ j)
+swap-basis n i j = sym (dot-unit (swapHalves n (2 ^ i)) j) ∙ dot-comm (swapHalves n (2 ^ i)) (2 ^ j) ∙ swap-pairing n (2 ^ i) (2 ^ j)
+
+-- a row's pairing with a basis vector is its bit in the other half
+pub pairing-x : (n u j : ℕ) → j < n → pairing n u (2 ^ j) ≡ bit (j + n) u
+pairing-x n u j h =
+    pairing-dot n u (2 ^ j) ∙ ap (dot u) (swap-low n (2 ^ j) (pow-lt h) ∙ sym (pow-add 2 j n)) ∙ dot-unit u (j + n)
+
+pub pairing-z : (n u j : ℕ) → n ≤ j → j < n + n → pairing n u (2 ^ j) ≡ bit (j - n) u
+pairing-z n u j g h =
+    let e : j - n + n ≡ j = omega arith in
+    let l : j - n < n = omega arith in
+    pairing-dot n u (2 ^ j) ∙ ap (λ k. dot u (swapHalves n (2 ^ k))) (sym e) ∙ ap (λ t. dot u (swapHalves n t)) (pow-add 2 (j - n) n)
+    ∙ ap (dot u) (swap-high n (2 ^ (j - n)) (pow-lt l)) ∙ dot-unit u (j - n)
+
+pub swap-turn : (n v u s : ℕ) → s ≡ swapHalves n v → u ⊕ select 0 (dot u s) v ≡ turn n v u
+unfolding turn
+swap-turn n v u s e = ap (λ (b : Bool). u ⊕ select 0 b v) (ap (dot u) e ∙ sym (pairing-dot n u v))
 
 pub pairing-self : (n u : ℕ) → pairing n u u ≡ false
 unfolding pairing

@@ -1,11 +1,12 @@
 // Actions on qubits: the pairing, turns, products, the symplectic test, and the questions that calls share.
 use binar::Row;
 ghost use mathlib.Core.Path.{_≡_};
-ghost use Prim.Native.Nat.{_+_, _<_, min};
+ghost use Prim.Native.Nat.{_+_, _<_, _≤_, min};
+ghost use Rattle.binar.specs.Bits.{_⊕_, select, dot};
 ghost use Rattle.binar.specs.Rows.{val};
 ghost use Rattle.blocks.specs.Matrices.{units};
 ghost use Rattle.blocks.specs.Words.{rowsOfWords, laid};
-ghost use Rattle.symplectic.specs.Turns.{pairing as pairingOf, turn as turnOf, followed as followedOf, product as productOf, symplectic, pairsAsBasis};
+ghost use Rattle.symplectic.specs.Turns.{swapHalves, followed as followedOf, product as productOf, symplectic, pairsAsBasis};
 ghost use Rattle.symplectic.specs.Actions.{capped, qubits, matrix, padded};
 ghost use Rattle.symplectic.specs.Replies.{fitAll, actionQuestions};
 ghost use Rattle.symplectic.specs.Answers.{numberOf};
@@ -56,19 +57,21 @@ pub fn width(a: Action) -> usize
     if a.n < 32 { a.n as usize } else { 32 }
 }
 
-pub fn pairing(n: usize, u: Row, v: Row) -> bool
-    ensures { λ r. ⌜ r ≡ pairingOf n (val u) (val v) ⌝ }
+// A vector with its halves exchanged: its dot with a vector is their pairing.
+fn swap_halves(n: usize, v: Row) -> Row
+    requires { ⌜ n ≤ 32 ⌝ }
+    ensures { λ r. ⌜ val r ≡ swapHalves n (val v) ⌝ }
 {
-    let xz = binar::dot(binar::low(u, n), binar::low(binar::shift_down(v, n), n));
-    let zx = binar::dot(binar::low(binar::shift_down(u, n), n), binar::low(v, n));
-    xz != zx
+    let x = binar::low(v, n);
+    let z = binar::low(binar::shift_down(v, n), n);
+    binar::sum(binar::shift_up(x, n), z)
 }
 
-// The turn of v, on u.
-pub fn turn(n: usize, v: Row, u: Row) -> Row
-    ensures { λ r. ⌜ val r ≡ turnOf n (val v) (val u) ⌝ }
+// The turn of v, on u; s is v with its halves exchanged.
+fn turned(u: Row, v: Row, s: Row) -> Row
+    ensures { λ r. ⌜ val r ≡ val u ⊕ select 0 (dot (val u) (val s)) (val v) ⌝ }
 {
-    if pairing(n, u, v) {
+    if binar::dot(u, s) {
         binar::sum(u, v)
     } else {
         u
@@ -82,9 +85,10 @@ pub fn followed(a: Action, v: Row) -> Action
     let mut b = a;
     let n = width(a);
     let count = n + n;
+    let s = swap_halves(n, v);
     for i in 0..count {
         let u = b.rows[i];
-        let w = turn(n, v, u);
+        let w = turned(u, v, s);
         b.rows[i] = w;
     }
     b
@@ -161,11 +165,11 @@ fn pairs_as_basis(a: Action, i: usize) -> bool
     let n = width(a);
     let count = n + n;
     let u = a.rows[i];
-    let e = binar::unit(i);
+    let s = swap_halves(n, u);
+    let e = swap_halves(n, binar::unit(i));
     for j in 0..count {
         let v = a.rows[j];
-        let d = binar::unit(j);
-        if pairing(n, u, v) != pairing(n, e, d) {
+        if binar::dot(v, s) != binar::bit(e, j) {
             return false;
         }
     }

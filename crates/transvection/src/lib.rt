@@ -57,12 +57,16 @@ fn row_at(a: Action, i: usize) -> Row
     binar::sum(u, binar::unit(i))
 }
 
-// A row's pairing with basis vector j.
+// A row's pairing with basis vector j: its bit in the other half.
 fn meets(n: usize, row: Row, j: usize) -> bool
-    requires { ⌜ j < 64 ⌝ }
+    requires { ⌜ (n ≤ 32) × (j < n + n) ⌝ }
     ensures { λ r. ⌜ r ≡ pairing n (val row) (2 ^ j) ⌝ }
 {
-    symplectic::pairing(n, row, binar::unit(j))
+    if j < n {
+        binar::bit(row, j + n)
+    } else {
+        binar::bit(row, j - n)
+    }
 }
 
 // The lowest row that pairs to 1 with its own basis vector.

@@ -10,6 +10,7 @@ use Rattle.blocks.specs.Blocks.{vals}
 use Rattle.blocks.proofs.Values.{vals-length, unmapped}
 use Rattle.symplectic.specs.Actions.{capped, qubits, matrix}
 use Rattle.symplectic.specs.Turns.{turn, followed}
+use Rattle.symplectic.proofs.Pairings.{swap-turn}
 use Rattle.symplectic.proofs.Products.{followed-length}
 use Rattle.symplectic.proofs.Arrays.{qubits-le, rows-more, rows-next, rows-front, followed-take, followed-at}
 use borrow.Author.Needs.{needs}
@@ -17,11 +18,11 @@ use Rattle.symplectic.proofs.followed.Statement.{statement}
 use Rattle.symplectic.proofs.followed.Tie as tie
 
 abbrev Inv-loop : tie.InvT-loop
-Inv-loop v b₀ n count i₀ b i =
+Inv-loop v b₀ n count s i₀ b i =
     (i ≤ count) × (count ≤ 64) × (b .n ≡ b₀ .n) × (vals (b .rows) ≡ take i (followed n (vals (b₀ .rows)) (val v)) ++ drop i (vals (b₀ .rows)))
 
 abbrev μ-loop : tie.MeasureT-loop
-μ-loop v b₀ n count i₀ b i = count - i
+μ-loop v b₀ n count s i₀ b i = count - i
 
 long64 : (c : tie.Start Inv-loop μ-loop) → length (c .args .a .rows) ≡ 64
 long64 c = search (needs, unmapped)
@@ -32,8 +33,11 @@ width-requires c κs = search needs
 add-count : tie.Need-add-count Inv-loop μ-loop
 add-count c = omega (arith, qubits-le (c .before .args .a), c .width .ensures)
 
+swap-halves-requires : tie.Need-swap-halves-requires Inv-loop μ-loop
+swap-halves-requires c κs = omega (arith, qubits-le (c .before .args .a), c .width .ensures)
+
 loop-holds : tie.Need-loop-holds Inv-loop μ-loop
-loop-holds c = (search needs, omega (arith, qubits-le (c .before .args .a), c .width .ensures), refl, refl)
+loop-holds c = (search needs, omega (arith, qubits-le (c .before .before .args .a), c .before .width .ensures), refl, refl)
 
 mul-u : tie.Need-mul-u Inv-loop μ-loop
 mul-u c = search needs
@@ -41,8 +45,8 @@ mul-u c = search needs
 element-copy-out-u : tie.Need-element-copy-out-u Inv-loop μ-loop
 element-copy-out-u c = search needs
 
-turn-requires : tie.Need-turn-requires Inv-loop μ-loop
-turn-requires c κs = search needs
+turned-requires : tie.Need-turned-requires Inv-loop μ-loop
+turned-requires c κs = search needs
 
 mul-w : tie.Need-mul-w Inv-loop μ-loop
 mul-w c = search needs
@@ -58,32 +62,33 @@ loop-less c = search needs
 
 loop-again : tie.Need-loop-again Inv-loop μ-loop
 loop-again c =
-    let s = c .before .before .before .before .before .args in
+    let s = c .before .before .before .before .before .before .args in
     let at = c .before .before .before .loop in
-    let n = c .before .before .before .before .width .result in
+    let n = c .before .before .before .before .before .width .result in
     let l = vals (s .a .rows) in
     let m = followed n l (val (s .v)) in
-    let long = long64 (c .before .before .before .before .before) in
+    let long = long64 (c .before .before .before .before .before .before) in
+    let turned = c .turned .ensures ∙ swap-turn n (val (s .v)) _ _ (c .before .before .before .before .swap-halves .ensures) in
     let hl : at .i < length l = omega (arith, vals-length (s .a .rows)) in
     let hm : at .i < length m = omega (arith, followed-length n l (val (s .v))) in (
       search needs,
       search needs,
       at .inv .2,
-      rows-more m l (at .b .rows) (at .i) (c .turn .result) hm hl (at .inv .3)
-          (c .turn .ensures ∙ ap (turn n (val (s .v))) (rows-next m l (at .b .rows) (at .i) hm hl (at .inv .3)) ∙ sym (followed-at n l (val (s .v)) (at .i) hl)),
+      rows-more m l (at .b .rows) (at .i) (c .turned .result) hm hl (at .inv .3)
+          (turned ∙ ap (turn n (val (s .v))) (rows-next m l (at .b .rows) (at .i) hm hl (at .inv .3)) ∙ sym (followed-at n l (val (s .v)) (at .i) hl)),
     )
 
 returns : tie.Need-returns Inv-loop μ-loop
 unfolding qubits matrix
 returns c =
-    let s = c .before .before .before .args in
+    let s = c .before .before .before .before .args in
     let at = c .before .loop in
-    let n = c .before .before .width .result in
+    let n = c .before .before .before .width .result in
     let q = qubits (s .a) in
     let l = vals (s .a .rows) in
     let m = followed n l (val (s .v)) in
-    let long = long64 (c .before .before .before) in
-    let e : n ≡ q = c .before .before .width .ensures in
+    let long = long64 (c .before .before .before .before) in
+    let e : n ≡ q = c .before .before .before .width .ensures in
     let same : capped (at .b .n) ≡ q = ap capped (at .inv .2) in (
       same,
       ap₂ (λ (k : ℕ) (x : List ℕ). take (k + k) x) same (at .inv .3)
@@ -99,10 +104,11 @@ followed-spec =
     μ-loop
     width-requires
     add-count
+    swap-halves-requires
     loop-holds
     mul-u
     element-copy-out-u
-    turn-requires
+    turned-requires
     mul-w
     element-set-from-w
     add-i
