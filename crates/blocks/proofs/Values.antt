@@ -1,13 +1,13 @@
 -- The values of rows in a list; the rows of a block read, written, pushed, taken out and exchanged; rows laid into lent words.
 -- Assumes nothing.
 use mathlib.Core.Path.{_≡_, refl, sym, ap, ap₂, _∙_}
-use mathlib.Core.Bool.{Bool, _&&_}
+use mathlib.Core.Bool.{Bool, true, false, _&&_}
 use mathlib.Core.List.{List, [], _∷_, _++_, map, append-nil}
 use Prim.Native.Nat.{ℕ, zero, suc, _+_, _≤_, _<_, min}
 use native.Mathlib.Nat.{le-of-suc-le-suc, not-suc-le-zero}
 use native.Mathlib.Numerals.{add-one}
 use native.Mathlib.Omega.{arith}
-use lib.ListN.{getD, set, length, take, drop, length-map, length-append, length-take, length-drop, drop-of-length-le}
+use lib.ListN.{getD, set, length, take, drop, length-map, length-set, length-append, length-take, length-drop, drop-of-length-le}
 use lib.Seq.{take-all, take-length, take-nil, take-at, take-suc, take-suc-set, drop-set-lt, set-at, drop-cons, getD-take, append-snoc, length-take-le}
 use lib.Dec.{ltb}
 use borrow.Author.Tests.{lt-ltb, le-ltb}
@@ -146,6 +146,14 @@ exchanged-out i j l h = ap (λ (s : Bool). select l (s && ltb j (length l)) (set
 pub exchanged-out-r : (i j : ℕ) (l : List ℕ) → i < length l → length l ≤ j → exchanged i j l ≡ l
 unfolding exchanged
 exchanged-out-r i j l g h = ap₂ (λ (s t : Bool). select l (s && t) (set (set l i (getD l j 0)) j (getD l i 0))) (lt-ltb i (length l) g) (le-ltb j (length l) h)
+
+pub exchanged-length : (i j : ℕ) (l : List ℕ) → length (exchanged i j l) ≡ length l
+unfolding exchanged
+exchanged-length i j l = go (ltb i (length l) && ltb j (length l))
+  where
+    go : (b : Bool) → length (select l b (set (set l i (getD l j 0)) j (getD l i 0))) ≡ length l
+    go true = length-set (set l i (getD l j 0)) j (getD l i 0) ∙ length-set l i (getD l j 0)
+    go false = refl
 
 -- ---- rows laid into words
 

@@ -1,7 +1,7 @@
 -- The sweep of a column, row by row: the pivot row is added to each other row that has the column. At the end every other row is cleared.
 -- Assumes nothing.
 use mathlib.Core.Path.{_≡_, refl, sym, ap, ap₂, _∙_, subst}
-use mathlib.Core.Bool.{Bool, true, false}
+use mathlib.Core.Bool.{Bool, true, false, not, _&&_}
 use mathlib.Core.List.{List, [], _∷_, map}
 use mathlib.Core.Logic.{⊎-elim}
 use Prim.Native.Nat.{ℕ, zero, suc, _+_, _≤_, _<_}
@@ -11,7 +11,7 @@ use native.Mathlib.Numerals.{add-one}
 use borrow.Author.Tests.{eqb-true, eqb-false, eq-eqb, ne-eqb}
 use lib.Dec.{eqb}
 use lib.ListN.{length, getD, set, length-set, length-map}
-use lib.Seq.{getD-set-same, getD-set-other, ext-getD}
+use lib.Seq.{set-getD, getD-set-same, getD-set-other, ext-getD}
 use Rattle.binar.specs.Bits.{select}
 use Rattle.reduction.specs.Columns.{clear}
 use Rattle.reduction.specs.Sweeps.{sweepIf, swept}
@@ -19,16 +19,12 @@ use Rattle.reduction.proofs.Flat.{others}
 
 -- ---- a turn of the loop
 
-module _ {A : Type 0} (d : A) (add : A → A → A) (p i : ℕ) (l : List A) where
-  pub sweep-self : (b : Bool) → i ≡ p → sweepIf d add p (eqb i p) b i l ≡ l
-  sweep-self b e = ap (λ a. sweepIf d add p a b i l) (eq-eqb i p e)
-
-  pub sweep-skip : (a b : Bool) → b ≡ false → sweepIf d add p a b i l ≡ l
-  sweep-skip true b e = refl
-  sweep-skip false b e = ap (λ x. sweepIf d add p false x i l) e
-
-  pub sweep-add : (b : Bool) → (i ≡ p → ⊥) → b ≡ true → sweepIf d add p (eqb i p) b i l ≡ set l i (add (getD l i d) (getD l p d))
-  sweep-add b n e = ap₂ (λ x y. sweepIf d add p x y i l) (ne-eqb i p n) e
+-- the code writes every row: one that is not swept as it was
+sweep-set : {A : Type 0} (d : A) (add : A → A → A) (p i : ℕ) (l : List A) (a b : Bool)
+    → set l i (select (getD l i d) (not a && b) (add (getD l i d) (getD l p d))) ≡ sweepIf d add p a b i l
+sweep-set d add p i l true b = set-getD l i d
+sweep-set d add p i l false true = refl
+sweep-set d add p i l false false = set-getD l i d
 
 module _ {A : Type 0} (d : A) (add : A → A → A) (t : ℕ → Bool) (p : ℕ) where
   pub swept-zero : (l : List A) → swept d add t p 0 l ≡ l
@@ -91,6 +87,14 @@ module _ {A : Type 0} (d : A) (add : A → A → A) (t : ℕ → Bool) (p : ℕ)
           (ap (λ b. getD (sweepIf d add p b (t k) k (swept d add t p k l)) k d) (ne-eqb k p n) ∙ now (t k))
       go false e earlier =
           step-other (eqb i p) (t i) i k (swept d add t p i l) (eqb-false k i e) ∙ earlier (⊎-elim (λ q. absurd (eqb-false k i e q)) (λ q. q) (eq-or-lt-of-le (le-of-suc-le-suc h)))
+
+  -- row i written, with the pivot row as it was before the sweep
+  pub swept-write : (i : ℕ) (l m : List A) (b : Bool) (w v : A) → m ≡ swept d add t p i l → v ≡ getD l p d → b ≡ t i
+      → w ≡ select (getD m i d) (not (eqb i p) && b) (add (getD m i d) v) → set m i w ≡ swept d add t p (i + 1) l
+  swept-write i l m b w v e f g h =
+      let pivot : v ≡ getD m p d = f ∙ sym (swept-pivot i l) ∙ ap (λ x. getD x p d) (sym e) in
+      ap (set m i) (h ∙ ap (λ x. select (getD m i d) (not (eqb i p) && b) (add (getD m i d) x)) pivot) ∙ sweep-set d add p i m (eqb i p) b
+      ∙ ap₂ (λ x y. sweepIf d add p (eqb i p) x i y) g e ∙ sym (swept-next i l)
 
 -- ---- every other row
 

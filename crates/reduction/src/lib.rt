@@ -3,10 +3,9 @@ use binar::Row;
 use blocks::Block;
 use symplectic::Action;
 ghost use mathlib.Core.Path.{_≡_};
-ghost use mathlib.Core.Bool.{true, false};
+ghost use mathlib.Core.Bool.{true, false, not, _&&_};
 ghost use mathlib.Core.List.{_++_, map, zip};
 ghost use Prim.Native.Nat.{ℕ, _+_, _≤_, _<_};
-ghost use lib.Dec.{eqb};
 ghost use lib.ListN.{getD, take, drop, length};
 ghost use Rattle.binar.specs.Bits.{bit as bitOf, _⊕_, select};
 ghost use Rattle.binar.specs.Rows.{val, width, unit as unitOf};
@@ -16,7 +15,7 @@ ghost use Rattle.symplectic.specs.Actions.{qubits, matrix};
 ghost use Rattle.symplectic.specs.Picks.{addBoth};
 ghost use Rattle.symplectic.specs.Turns.{identityPlus};
 ghost use Rattle.reduction.specs.Columns.{column as columnOf, columns, rank as rankOf, rowReduceWithTransform};
-ghost use Rattle.reduction.specs.Sweeps.{halves, halvesOf, sweepIf, swept as sweptOf};
+ghost use Rattle.reduction.specs.Sweeps.{halves, halvesOf, swept as sweptOf};
 ghost use Rattle.reduction.specs.Residue.{residue as residueOf, basis as basisOf, core as coreOf, timesTransposed};
 
 // Rows and transform rows in their final order: the first `rank` rows are the basis.
@@ -51,34 +50,38 @@ fn first_with(b: Block, c: usize, p: usize) -> usize
 {
     let k = blocks::length_of(b);
     for i in p..k {
-        if binar::bit(blocks::get(b, i), c) {
+        if binar::bit(b.rows[i], c) {
             return i;
         }
     }
     k
 }
 
-// Row p added to row i, where that is another row and has the column.
-fn sweep_row(b: Block, p: usize, i: usize, has: bool) -> Block
-    ensures { λ r. ⌜ rowsOf r ≡ sweepIf 0 _⊕_ p (eqb i p) has i (rowsOf b) ⌝ }
+// A row with the pivot row v added, where it is another one and has the column.
+fn swept_row(u: Row, v: Row, pivot: bool, has: bool) -> Row
+    ensures { λ r. ⌜ val r ≡ select (val u) (not pivot && has) (val u ⊕ val v) ⌝ }
 {
-    if i == p {
-        return b;
+    if pivot {
+        return u;
     }
     if has {
-        return blocks::put(b, i, binar::sum(blocks::get(b, i), blocks::get(b, p)));
+        return binar::sum(u, v);
     }
-    b
+    u
 }
 
 // Row p added to every other row i for which row i of `test` has column c.
 fn swept(b: Block, test: Block, c: usize, p: usize) -> Block
+    requires { ⌜ length (rowsOf b) ≤ length (rowsOf test) ⌝ }
     ensures { λ r. ⌜ rowsOf r ≡ sweptOf 0 _⊕_ (λ i. bitOf c (getD (rowsOf test) i 0)) p (length (rowsOf b)) (rowsOf b) ⌝ }
 {
     let k = blocks::length_of(b);
+    let v = blocks::get(b, p);
     let mut n = b;
     for i in 0..k {
-        n = sweep_row(n, p, i, binar::bit(blocks::get(test, i), c));
+        let has = binar::bit(test.rows[i], c);
+        let w = swept_row(n.rows[i], v, i == p, has);
+        n.rows[i] = w;
     }
     n
 }
@@ -151,7 +154,7 @@ fn dots(v: Row, b: Block) -> Row
     let k = blocks::length_of(rows);
     let mut w = binar::zero();
     for i in 0..k {
-        w = with_unit(w, i, binar::dot(v, blocks::get(rows, i)));
+        w = with_unit(w, i, binar::dot(v, rows.rows[i]));
     }
     w
 }

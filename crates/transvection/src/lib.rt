@@ -7,7 +7,7 @@ ghost use mathlib.Core.Path.{_≡_};
 ghost use mathlib.Core.Option.{none};
 ghost use mathlib.Core.List.{reverse};
 ghost use Prim.Native.Nat.{_+_, _*_, _^_, _≤_, _<_};
-ghost use lib.ListN.{length, getD};
+ghost use lib.ListN.{length};
 ghost use Rattle.binar.specs.Bits.{_⊕_};
 ghost use Rattle.binar.specs.Rows.{val};
 ghost use Rattle.blocks.specs.Words.{laid};
@@ -48,12 +48,11 @@ fn nothing_found() -> Next
     }
 }
 
-// Row i of I + F.
-fn row_at(a: Action, i: usize) -> Row
-    requires { ⌜ i < qubits a + qubits a ⌝ }
-    ensures { λ r. ⌜ val r ≡ getD (matrix a) i 0 ⊕ 2 ^ i ⌝ }
+// Row i of I + F, from row i of F.
+fn row_at(u: Row, i: usize) -> Row
+    requires { ⌜ i < 64 ⌝ }
+    ensures { λ r. ⌜ val r ≡ val u ⊕ 2 ^ i ⌝ }
 {
-    let u = a.rows[i];
     binar::sum(u, binar::unit(i))
 }
 
@@ -76,7 +75,7 @@ fn one_row(a: Action) -> Next
     let n = symplectic::width(a);
     let count = n + n;
     for i in 0..count {
-        let u = row_at(a, i);
+        let u = row_at(a.rows[i], i);
         if meets(n, u, i) {
             return Next {
                 found: true,
@@ -94,9 +93,9 @@ fn pair_with(a: Action, i: usize) -> Next
 {
     let n = symplectic::width(a);
     let count = n + n;
-    let u = row_at(a, i);
+    let u = row_at(a.rows[i], i);
     for j in i + 1..count {
-        let v = row_at(a, j);
+        let v = row_at(a.rows[j], j);
         let w = binar::sum(u, v);
         if meets(n, u, j) != meets(n, v, i) {
             return Next {
@@ -129,7 +128,7 @@ fn nonzero_row(a: Action) -> Next
     let n = symplectic::width(a);
     let count = n + n;
     for i in 0..count {
-        let u = row_at(a, i);
+        let u = row_at(a.rows[i], i);
         if !binar::is_zero(u) {
             return Next {
                 found: true,

@@ -1,9 +1,10 @@
 -- `column` exchanges the first row that has the column up and sweeps, by `column-done`; where there is none it changes nothing, by `both-none`.
 -- Assumes nothing.
-use mathlib.Core.Path.{sym}
+use mathlib.Core.Path.{sym, ap, _∙_}
 use Prim.Native.Nat.{_<_}
 use lib.ListN.{length}
 use Rattle.blocks.specs.Blocks.{rowsOf}
+use Rattle.blocks.proofs.Values.{exchanged-length}
 use Rattle.reduction.proofs.TwoLists.{both-none}
 use Rattle.reduction.proofs.Loops.{column-done}
 use native.Mathlib.Omega.{arith}
@@ -27,7 +28,14 @@ swept-requires : tie.Need-swept-requires
 swept-requires c κs = search needs
 
 swept-requires-2 : tie.Need-swept-requires-2
-swept-requires-2 c κs = search needs
+swept-requires-2 c κs =
+    let at = c .before .before .before .before in
+    let r = at .before .before .args .r in
+    let p = r .rank in
+    let j = at .before .first-with .result in
+    let rows = ap length (c .before .before .exchange .ensures) ∙ exchanged-length p j (rowsOf (r .rows)) in
+    let transform = ap length (c .before .exchange2 .ensures) ∙ exchanged-length p j (rowsOf (r .transform)) in
+    omega (arith, rows, transform, at .before .before .pre .0)
 
 add-t11 : tie.Need-add-t11
 add-t11 c =

@@ -11,6 +11,7 @@ use Rattle.binar.specs.Rows.{val, width}
 use Rattle.binar.proofs.Ones.{unit-is}
 use Rattle.blocks.specs.Blocks.{rowsOf}
 use Rattle.blocks.specs.Matrices.{dots}
+use Rattle.blocks.proofs.Values.{rows-get}
 use Rattle.reduction.proofs.Loops.{dots-next}
 use native.Mathlib.Omega.{arith}
 use borrow.Author.Needs.{needs}
@@ -18,7 +19,7 @@ use Rattle.reduction.proofs.dots.Statement.{statement}
 use Rattle.reduction.proofs.dots.Tie as tie
 
 abbrev Inv-loop : tie.InvT-loop
-Inv-loop v rows k w₀ i₀ w i = (i ≤ k) × (val w ≡ dots (take i (rowsOf rows)) (val v))
+Inv-loop v rows k w₀ i₀ w i = (i ≤ k) × (k ≤ 64) × (val w ≡ dots (take i (rowsOf rows)) (val v))
 
 abbrev μ-loop : tie.MeasureT-loop
 μ-loop v rows k w₀ i₀ w i = k - i
@@ -33,11 +34,17 @@ zero-requires : tie.Need-zero-requires Inv-loop μ-loop
 zero-requires c κs = search needs
 
 loop-holds : tie.Need-loop-holds Inv-loop μ-loop
-unfolding dots
-loop-holds c = (search needs, c .zero .ensures)
+unfolding dots width
+loop-holds c =
+    let from = c .before .before in
+    let short : length (rowsOf (from .first-rows .result)) ≤ 64 = omega (arith, ap length (from .first-rows .ensures), length-take 64 (rowsOf (from .before .args .b))) in
+    (search needs, omega (arith, c .before .length-of .ensures), c .zero .ensures)
 
-get-requires : tie.Need-get-requires Inv-loop μ-loop
-get-requires c κs = search needs
+mul-dot : tie.Need-mul-dot Inv-loop μ-loop
+mul-dot c = search needs
+
+element-copy-out-dot : tie.Need-element-copy-out-dot Inv-loop μ-loop
+element-copy-out-dot c = search needs
 
 dot-requires : tie.Need-dot-requires Inv-loop μ-loop
 dot-requires c κs = search needs
@@ -57,13 +64,13 @@ loop-again c =
     let at = c .before .before .before .before .loop in
     let from = c .before .before .before .before .before .before .before in
     let s = from .before .args in
-    let l = rowsOf (from .first-rows .result) in
-    let short : length l ≤ 64 = omega (arith, ap length (from .first-rows .ensures), length-take 64 (rowsOf (s .b))) in
-    let h : at .i < length l = omega (arith, c .before .before .before .before .before .before .length-of .ensures) in (
+    let b = from .first-rows .result in
+    let h : at .i < length (rowsOf b) = omega (arith, c .before .before .before .before .before .before .length-of .ensures) in (
+      search needs,
       search needs,
       c .with-unit .ensures
-          ∙ ap₂ _⊕_ (at .inv .1) (ap₂ (λ (b : Bool) (u : ℕ). select 0 b u) (c .before .dot .ensures ∙ ap (dot (val (s .v))) (c .before .before .get .ensures)) (unit-is (at .i) (omega arith)))
-          ∙ sym (dots-next l (at .i) (val (s .v)) h),
+          ∙ ap₂ _⊕_ (at .inv .2) (ap₂ (λ (b : Bool) (u : ℕ). select 0 b u) (c .before .dot .ensures ∙ ap (dot (val (s .v))) (rows-get b (at .i) h)) (unit-is (at .i) (omega arith)))
+          ∙ sym (dots-next (rowsOf b) (at .i) (val (s .v)) h),
     )
 
 returns : tie.Need-returns Inv-loop μ-loop
@@ -72,7 +79,7 @@ returns c =
     let from = c .before .before .before .before in
     let s = from .before .args in
     let l = rowsOf (from .first-rows .result) in
-    c .before .loop .inv .1 ∙ ap (λ (m : List ℕ). dots m (val (s .v))) (take-all (c .before .loop .i) l (omega (arith, c .before .before .before .length-of .ensures)) ∙ from .first-rows .ensures)
+    c .before .loop .inv .2 ∙ ap (λ (m : List ℕ). dots m (val (s .v))) (take-all (c .before .loop .i) l (omega (arith, c .before .before .before .length-of .ensures)) ∙ from .first-rows .ensures)
 
 pub dots-spec : {M : Type 1} → statement M
 dots-spec =
@@ -84,7 +91,8 @@ dots-spec =
     length-of-requires
     zero-requires
     loop-holds
-    get-requires
+    mul-dot
+    element-copy-out-dot
     dot-requires
     with-unit-requires
     add-i
