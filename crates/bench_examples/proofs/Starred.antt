@@ -1,8 +1,8 @@
 -- The one computed theorem: every starred example of document 01, as the definitions answer it.
 -- Assumes nothing.
 use mathlib.Core.Path.{_≡_, refl}
-use mathlib.Core.List.{List, map, zip, zipWith}
-use Rattle.bench_examples.specs.Table.{Example, Answer, answer, table}
+use mathlib.Core.List.{map, zip, zipWith}
+use Rattle.bench_examples.specs.Table.{Example, answer, table}
 use Rattle.binar.specs.Bits.{odd, bit, _⊕_, weight, dot}
 use Rattle.blocks.specs.Matrices.{times, units, dots}
 use Rattle.blocks.specs.Words.{rowsOfWords, wordsOfRows, laid}

@@ -1,6 +1,6 @@
 -- What a row of the code is worth. Crates above know a row by its value and the width, and by nothing else.
 -- Assumes nothing.
-use Prim.Native.Nat.{ℕ, _*_, _/_, _%_, _^_}
+use Prim.Native.Nat.{ℕ, _%_, _^_}
 use lib.Count.{trailingZeros}
 use Rattle.binar.specs.declared.Row.{Row}
 

@@ -1,4 +1,5 @@
 // Rows of bits: one word each, known above by their value alone.
+// In the source: the crate binar, whose bit rows these stand for.
 ghost use mathlib.Core.Path.{_≡_};
 ghost use Prim.Native.Nat.{_+_, _-_, _*_, _/_, _%_, _^_, _<_};
 ghost use lib.Dec.{eqb, ltb};

@@ -2,7 +2,7 @@
 -- Assumes nothing.
 use mathlib.Core.Path.{_≡_, refl, sym, ap, ap₂, _∙_}
 use mathlib.Core.Bool.{Bool, true, false, _&&_}
-use mathlib.Core.List.{List, [], _∷_, _++_, map-append}
+use mathlib.Core.List.{List, [], _∷_}
 use Prim.Native.Nat.{ℕ, zero, suc, _+_, _*_, _/_, _%_, _^_, _≤_, _<_}
 use native.Mathlib.Nat.{pow-suc, mul-assoc, mul-div-cancel, mul-mod-left, zero-lt-suc, le-of-suc-le-suc, not-suc-le-zero, pos-of-ne-zero}
 use native.Mathlib.Omega.{arith}
@@ -113,19 +113,14 @@ pub matmul-length : (A B : List ℕ) → length (matmul A B) ≡ length A
 unfolding matmul
 matmul-length A B = length-map A (λ a. times a B)
 
--- one row more, at the end
-pub matmul-snoc : (A B : List ℕ) (a : ℕ) → matmul (A ++ (a ∷ [])) B ≡ matmul A B ++ (times a B ∷ [])
-unfolding matmul
-matmul-snoc A B a = map-append (λ x. times x B) A (a ∷ [])
+pub select-lt : (m : ℕ) (b : Bool) (v : ℕ) → v < 2 ^ m → select 0 b v < 2 ^ m
+select-lt m true v h = h
+select-lt m false v h = pow-pos m
 
 pub times-lt : (m : ℕ) (M : List ℕ) → All (λ v. v < 2 ^ m) M → (c : ℕ) → times c M < 2 ^ m
 unfolding times
 times-lt m [] a c = pow-pos m
-times-lt m (v ∷ M) a c = sum-lt m (times (c / 2) M) (select 0 (odd c) v) (times-lt m M (a .1) (c / 2)) (part (odd c))
-  where
-    part : (b : Bool) → select 0 b v < 2 ^ m
-    part true = a .0
-    part false = pow-pos m
+times-lt m (v ∷ M) a c = sum-lt m (times (c / 2) M) (select 0 (odd c) v) (times-lt m M (a .1) (c / 2)) (select-lt m (odd c) v (a .0))
 
 -- ---- the ones of a row, lowest first
 

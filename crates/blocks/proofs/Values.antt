@@ -8,7 +8,7 @@ use native.Mathlib.Nat.{le-of-suc-le-suc, not-suc-le-zero}
 use native.Mathlib.Numerals.{add-one}
 use native.Mathlib.Omega.{arith}
 use lib.ListN.{getD, set, length, take, drop, length-map, length-set, length-append, length-take, length-drop, drop-of-length-le}
-use lib.Seq.{take-all, take-length, take-nil, take-at, take-suc, take-suc-set, drop-set-lt, set-at, drop-cons, getD-take, append-snoc, length-take-le}
+use lib.Seq.{take-all, take-length, take-nil, take-at, take-suc, take-suc-set, set-at, drop-cons, getD-take, append-snoc, length-take-le}
 use lib.Dec.{ltb}
 use borrow.Author.Tests.{lt-ltb, le-ltb}
 use Rattle.binar.specs.declared.Row.{Row}
@@ -94,15 +94,25 @@ pub push-fits : (l : List ℕ) (v : ℕ) → length l < 65 → take room (l ++ (
 unfolding room
 push-fits l v h = take-all 65 (l ++ (v ∷ [])) (omega (arith, length-append l (v ∷ [])))
 
--- ---- a member taken out
+-- a row written behind the first i
+pub taken-next : (l : List Row) (i : ℕ) (v : Row) → i < length l → take (i + 1) (vals (set l i v)) ≡ take i (vals l) ++ (val v ∷ [])
+taken-next l i v h = ap₂ take (add-one i) (vals-set l i v) ∙ take-suc-set (vals l) i (val v) (omega (arith, vals-length l))
 
--- moving the next member down takes it out in place of this one
-pub without-next : (l : List ℕ) (j : ℕ) → suc j < length l → without (suc j) (set l j (getD l (suc j) 0)) ≡ without j l
-unfolding without
-without-next l j h =
-    let x = getD l (suc j) 0 in
-    ap₂ (λ (m n : List ℕ). m ++ n) (take-suc-set l j x (omega arith)) (drop-set-lt (suc (suc j)) l j x (omega arith))
-    ∙ append-snoc (take j l) x (drop (suc (suc j)) l) ∙ ap (λ (m : List ℕ). take j l ++ m) (sym (drop-cons l (suc j) 0 h))
+-- a block written from its start: row i of m behind the first i, then as many as m has
+pub write-next : (m : List ℕ) (l : List Row) (i : ℕ) (v : Row) → i < length m → i < length l → take i (vals l) ≡ take i m → val v ≡ getD m i 0 → take (i + 1) (vals (set l i v)) ≡ take (i + 1) m
+write-next m l i v h g e f =
+    taken-next l i v g ∙ ap₂ (λ (k : List ℕ) (x : ℕ). k ++ (x ∷ [])) e f ∙ sym (ap (λ (k : ℕ). take k m) (add-one i) ∙ take-suc m i 0 h)
+
+pub write-end : (m : List ℕ) (l : List Row) (i k : ℕ) → i ≡ k → k ≡ length m → take i (vals l) ≡ take i m → take k (vals l) ≡ m
+write-end m l i k e h inv = ap (λ (j : ℕ). take j (vals l)) (sym e) ∙ inv ∙ take-all i m (omega arith)
+
+-- a member of a map's results
+pub map-get : {A B : Type 0} (f : A → B) (l : List A) (i : ℕ) (d : A) (e : B) → i < length l → getD (map f l) i e ≡ f (getD l i d)
+map-get f [] i d e h = absurd (not-suc-le-zero h)
+map-get f (x ∷ l) zero d e h = refl
+map-get f (x ∷ l) (suc i) d e h = map-get f l i d e (le-of-suc-le-suc h)
+
+-- ---- a member taken out
 
 -- the front of what is left is what is left of the front
 pub without-take : (i k : ℕ) (l : List ℕ) → i ≤ k → take k (without i l) ≡ without i (take (suc k) l)
@@ -118,20 +128,6 @@ unfolding without
 take-without zero l = refl
 take-without (suc j) [] = refl
 take-without (suc j) (x ∷ l) = ap (λ (m : List ℕ). x ∷ m) (take-without j l)
-
-pub without-move : (l : List Row) (j : ℕ) → j + 1 < length l → without (j + 1) (vals (set l j (getD l (j + 1) blank))) ≡ without j (vals l)
-without-move l j h =
-    ap₂ (λ (k : ℕ) (m : List ℕ). without k m) (add-one j)
-    (vals-set l j (getD l (j + 1) blank) ∙ ap (set (vals l) j) (vals-get l (j + 1) ∙ ap (λ (k : ℕ). getD (vals l) k 0) (add-one j)))
-    ∙ without-next (vals l) j (omega (arith, vals-length l))
-
-pub without-end : (i j k : ℕ) (l m : List ℕ) → i ≤ j → k ≡ suc j → without j m ≡ without i l → take j m ≡ without i (take k l)
-without-end i j k l m h e inv =
-    sym (take-without j m) ∙ ap (take j) inv ∙ without-take i j l h ∙ ap (λ (n : ℕ). without i (take n l)) (sym e)
-
-pub without-past : (i : ℕ) (l : List ℕ) → length l ≤ i → without i l ≡ l
-unfolding without
-without-past i l h = ap₂ (λ (m n : List ℕ). m ++ n) (take-all i l h) (drop-of-length-le l {i = suc i} (omega arith)) ∙ append-nil l
 
 -- ---- two members exchanged
 
@@ -154,6 +150,15 @@ exchanged-length i j l = go (ltb i (length l) && ltb j (length l))
     go : (b : Bool) → length (select l b (set (set l i (getD l j 0)) j (getD l i 0))) ≡ length l
     go true = length-set (set l i (getD l j 0)) j (getD l i 0) ∙ length-set l i (getD l j 0)
     go false = refl
+
+-- both rows written
+pub rows-exchange : (b : Block) (i j : ℕ) → i < length (rowsOf b) → j < length (rowsOf b)
+    → take (b .count) (vals (set (set (b .rows) i (getD (b .rows) j blank)) j (getD (b .rows) i blank))) ≡ exchanged i j (rowsOf b)
+unfolding rowsOf
+rows-exchange b i j h g =
+    rows-set (set (b .rows) i (getD (b .rows) j blank)) (b .count) j (getD (b .rows) i blank)
+    ∙ ap₂ (λ (m : List ℕ) (x : ℕ). set m j x) (rows-set (b .rows) (b .count) i (getD (b .rows) j blank) ∙ ap (set (rowsOf b) i) (rows-get b j g)) (rows-get b i h)
+    ∙ sym (exchanged-in i j (rowsOf b) h g)
 
 -- ---- rows laid into words
 

@@ -1,6 +1,6 @@
 -- What a block of the code means: the values of its first `count` rows. A count above the room means the room.
 -- Assumes nothing.
-use mathlib.Core.List.{List, [], _∷_, map}
+use mathlib.Core.List.{List, map}
 use Prim.Native.Nat.{ℕ}
 use lib.ListN.{take}
 use Rattle.binar.specs.declared.Row.{Row}

@@ -1,12 +1,13 @@
 // Blocks of rows, by value: room for 65 rows, and a count.
+// In the source: the crate binar, whose bit matrices these stand for.
 use binar::Row;
 ghost use mathlib.Core.Path.{_≡_};
 ghost use mathlib.Core.List.{[], _∷_, _++_};
-ghost use Prim.Native.Nat.{_+_, _≤_, _<_, min};
-ghost use lib.ListN.{getD, set, take, length};
+ghost use Prim.Native.Nat.{_+_, _<_, min};
+ghost use lib.ListN.{getD, take, length};
 ghost use Rattle.binar.specs.Rows.{val, width};
-ghost use Rattle.blocks.specs.Blocks.{room, vals, rowsOf};
-ghost use Rattle.blocks.specs.Matrices.{times as timesOf, matmul, units, without, exchanged};
+ghost use Rattle.blocks.specs.Blocks.{room, rowsOf};
+ghost use Rattle.blocks.specs.Matrices.{times as timesOf, matmul, units, exchanged};
 ghost use Rattle.blocks.specs.Words.{rowsOfWords, laid};
 
 pub struct Block {
@@ -14,7 +15,7 @@ pub struct Block {
     pub count: usize,
 }
 
-fn lesser(m: usize, n: usize) -> usize
+pub fn lesser(m: usize, n: usize) -> usize
     ensures { λ r. ⌜ r ≡ min m n ⌝ }
 {
     if m < n { m } else { n }
@@ -47,18 +48,6 @@ pub fn get(b: Block, i: usize) -> Row
     }
 }
 
-pub fn put(b: Block, i: usize, v: Row) -> Block
-    ensures { λ r. ⌜ rowsOf r ≡ set (rowsOf b) i (val v) ⌝ }
-{
-    if i < 65 {
-        let mut n = b;
-        n.rows[i] = v;
-        n
-    } else {
-        b
-    }
-}
-
 // The row behind the others, where there is room.
 pub fn push(b: Block, v: Row) -> Block
     ensures { λ r. ⌜ rowsOf r ≡ take room (rowsOf b ++ (val v ∷ [])) ⌝ }
@@ -74,37 +63,18 @@ pub fn push(b: Block, v: Row) -> Block
     }
 }
 
-// The first k rows but for row i: those behind it move down by one.
-fn closed(b: Block, i: usize, k: usize) -> Block
-    requires { ⌜ (i < k) × (k ≤ 65) ⌝ }
-    ensures { λ r. ⌜ rowsOf r ≡ without i (take k (vals (b .rows))) ⌝ }
-{
-    let mut n = b;
-    let last = k - 1;
-    for j in i..last {
-        n.rows[j] = n.rows[j + 1];
-    }
-    n.count = last;
-    n
-}
-
-pub fn remove(b: Block, i: usize) -> Block
-    ensures { λ r. ⌜ rowsOf r ≡ without i (rowsOf b) ⌝ }
-{
-    let k = length_of(b);
-    if i < k { closed(b, i, k) } else { b }
-}
-
 pub fn exchange(b: Block, i: usize, j: usize) -> Block
     ensures { λ r. ⌜ rowsOf r ≡ exchanged i j (rowsOf b) ⌝ }
 {
     let k = length_of(b);
     if i < k {
         if j < k {
-            let x = get(b, i);
-            let y = get(b, j);
-            let n = put(b, i, y);
-            return put(n, j, x);
+            let mut n = b;
+            let x = n.rows[i];
+            let y = n.rows[j];
+            n.rows[i] = y;
+            n.rows[j] = x;
+            return n;
         }
     }
     b
@@ -116,8 +86,9 @@ pub fn identity(m: usize) -> Block
     let k = lesser(m, 64);
     let mut n = empty();
     for i in 0..k {
-        n = push(n, binar::unit(i));
+        n.rows[i] = binar::unit(i);
     }
+    n.count = k;
     n
 }
 
@@ -142,8 +113,9 @@ pub fn product(a: Block, b: Block) -> Block
     let k = length_of(a);
     let mut n = empty();
     for i in 0..k {
-        n = push(n, times(a.rows[i], b));
+        n.rows[i] = times(a.rows[i], b);
     }
+    n.count = k;
     n
 }
 
@@ -154,13 +126,14 @@ pub fn load(words: &[u64]) -> Block
     let k = lesser(65, words.len());
     let mut n = empty();
     for i in 0..k {
-        n = push(n, binar::of_word(words[i]));
+        n.rows[i] = binar::of_word(words[i]);
     }
+    n.count = k;
     n
 }
 
 // The word that a row takes.
-fn word(a: Row) -> u64
+pub fn word(a: Row) -> u64
     ensures { λ r. ⌜ r ≡ val a ⌝ }
 {
     binar::word_of(a)

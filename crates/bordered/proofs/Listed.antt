@@ -10,6 +10,7 @@ use lib.ListN.{length}
 use Rattle.blocks.specs.declared.Block.{Block}
 use Rattle.blocks.specs.Blocks.{rowsOf}
 use Rattle.blocks.specs.Matrices.{times, units}
+use Rattle.symplectic.specs.Picks.{when}
 use Rattle.reduction.specs.Residue.{basis, core, residue, form}
 use Rattle.reduction.proofs.Core.{core-length, basis-rank, residue-length}
 use Rattle.reduction.proofs.Parts.{fits-all}
@@ -17,12 +18,12 @@ use Rattle.reduction.proofs.Reduced.{rank-length}
 use Rattle.triangular.specs.Readings.{coreOf}
 use Rattle.family.specs.declared.Family.{Family}
 use Rattle.family.specs.Family.{borderedFamily}
-use Rattle.family.specs.Readings.{whenMade, listOf, familyOf}
-use Rattle.bordered.specs.Checks.{vectors, validate, verifiesBordered, passing, checkedList, borderedList}
+use Rattle.family.specs.Readings.{listOf, familyOf}
+use Rattle.bordered.specs.Checks.{vectors, validate, verifiesBordered, checkedList, borderedList}
 
 module _ (n : ℕ) (F : List ℕ) (size : length F ≡ n + n) (small : n ≤ 32) where
   -- no row of the core is left out
-  core-fits : (b : Block) → rowsOf b ≡ core n F → coreOf b ≡ core n F
+  pub core-fits : (b : Block) → rowsOf b ≡ core n F → coreOf b ≡ core n F
   unfolding coreOf
   core-fits b e =
       fits-all (rowsOf b) (omega (arith, ap length e, core-length n F, basis-rank n F, rank-length (n + n) (residue n F), residue-length n F size)) ∙ e
@@ -35,13 +36,13 @@ module _ (n : ℕ) (F : List ℕ) (size : length F ≡ n + n) (small : n ≤ 32)
 
     pub unlisted : f .made ≡ false → none ≡ borderedList n F
     unfolding familyOf borderedList checkedList
-    unlisted e = ap (λ t. checkedList n F (whenMade t (listOf f))) (sym e) ∙ ap (checkedList n F) same
+    unlisted e = ap (λ t. checkedList n F (when t (listOf f))) (sym e) ∙ ap (checkedList n F) same
 
     pub listed-by : f .made ≡ true → (vs : List ℕ) → vs ≡ map (λ p. times p (basis n F)) (vectors (listOf f))
         → (s t : Bool) → s ≡ validate (length (basis n F)) (form (core n F)) (listOf f) → t ≡ verifiesBordered n F (length (basis n F)) vs
-        → passing (s && t) vs ≡ borderedList n F
+        → when (s && t) vs ≡ borderedList n F
     unfolding familyOf borderedList checkedList
     listed-by e vs v s t a b =
-        ap₂ (λ x y. passing (x && y) vs) a b
-        ∙ ap (λ w. passing (validate (length (basis n F)) (form (core n F)) (listOf f) && verifiesBordered n F (length (basis n F)) w) w) v
-        ∙ ap (λ m. checkedList n F (whenMade m (listOf f))) (sym e) ∙ ap (checkedList n F) same
+        ap₂ (λ x y. when (x && y) vs) a b
+        ∙ ap (λ w. when (validate (length (basis n F)) (form (core n F)) (listOf f) && verifiesBordered n F (length (basis n F)) w) w) v
+        ∙ ap (λ m. checkedList n F (when m (listOf f))) (sym e) ∙ ap (checkedList n F) same

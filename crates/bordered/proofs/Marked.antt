@@ -1,21 +1,24 @@
 -- The list of a family, whose first vectors are not in the relation: its vectors, its bits, how many bits are set, and the sum of those in the relation.
 -- Assumes nothing.
-use mathlib.Core.Path.{_≡_, refl, sym, ap, _∙_}
-use mathlib.Core.Bool.{false, not}
+use mathlib.Core.Path.{_≡_, refl, sym, ap, ap₂, _∙_}
+use mathlib.Core.Bool.{Bool, false, _&&_, not}
 use mathlib.Core.List.{List, [], _∷_}
 use Prim.Native.Nat.{ℕ, zero, suc, _+_, _-_, _≤_, _<_}
 use native.Mathlib.Nat.{le-of-suc-le-suc, not-suc-le-zero, suc-sub-suc}
 use native.Mathlib.Omega.{arith}
 use lib.Dec.{leb, leb·zero, leb·suc-zero, leb·suc-suc}
 use lib.ListN.{length, getD, drop, drop-of-length-le}
-use Rattle.binar.specs.Bits.{odd, _⊕_}
+use Rattle.binar.specs.Bits.{odd, _⊻_, _⊕_, dot}
 use Rattle.binar.proofs.Digits.{odd-add}
 use Rattle.binar.proofs.Sums.{sum-zero, sum-assoc, sum-comm}
 use Rattle.symplectic.proofs.FirstPicks.{drop-open}
 use Rattle.blocks.specs.Blocks.{rowsOf}
+use Rattle.blocks.specs.Matrices.{times, matmul}
+use Rattle.blocks.proofs.Values.{map-get}
+use Rattle.reduction.specs.Residue.{form}
 use Rattle.family.specs.declared.Family.{Family}
 use Rattle.family.specs.Readings.{marked, listOf}
-use Rattle.bordered.specs.Checks.{vectors, oddRelation, relationSum}
+use Rattle.bordered.specs.Checks.{vectors, oddRelation, relationSum, borderedForm}
 
 pub marked-vectors : (k : ℕ) (vs : List ℕ) → vectors (marked k vs) ≡ vs
 unfolding marked
@@ -40,6 +43,15 @@ marked-at zero (v ∷ vs) (suc i) h =
 marked-at (suc k) (v ∷ vs) zero h = ap (λ b. (v, b)) (sym (leb·suc-zero k))
 marked-at (suc k) (v ∷ vs) (suc i) h =
     marked-at k vs i (le-of-suc-le-suc h) ∙ ap (λ b. (getD vs i 0, b)) (sym (leb·suc-suc k i))
+
+-- the entry of two vectors, the first of them times the core, and their bits
+module _ (E vs R : List ℕ) (is : R ≡ matmul vs E) (k i j : ℕ) (h : i < length vs) (g : j < length vs) where
+  pub gram-is : (r both : Bool) (a b : ℕ) → r ≡ dot a b ⊻ both → a ≡ getD R i 0 → b ≡ getD vs j 0 → both ≡ leb k i && leb k j
+      → r ≡ borderedForm (form E) (getD (marked k vs) i (0, false)) (getD (marked k vs) j (0, false))
+  unfolding form matmul
+  gram-is r both a b e x y z =
+      e ∙ ap₂ _⊻_ (ap₂ dot (x ∙ ap (λ m. getD m i 0) is ∙ map-get (λ v. times v E) vs i 0 0 h) y) z
+      ∙ sym (ap₂ (borderedForm (form E)) (marked-at k vs i h) (marked-at k vs j g))
 
 -- ---- how many are in the relation
 

@@ -52,6 +52,15 @@ module _ (E : ℕ → ℕ → Bool) (l : List (ℕ × Bool)) (i : ℕ) where
   unfolding unitLower
   lower-left h = ap (unitLower E) (drop-of-length-le l h)
 
+  -- row i makes the verdict, or leaves it to the rows behind it
+  pub lower-stopped : i < length l → unitLower E (drop i l) ≡ unitLower E l → false ≡ rowLower E l i → false ≡ unitLower E l
+  lower-stopped h same e =
+      stopped (rowLower E l i) (unitLower E (drop (i + 1) l)) (unitLower E (drop i l)) (unitLower E l) same (lower-open h) (sym e)
+
+  pub lower-onward : i < length l → unitLower E (drop i l) ≡ unitLower E l → true ≡ rowLower E l i → unitLower E (drop (i + 1) l) ≡ unitLower E l
+  lower-onward h same e =
+      onward (rowLower E l i) (unitLower E (drop (i + 1) l)) (unitLower E (drop i l)) (unitLower E l) same (lower-open h) (sym e)
+
 module _ (xs ys : List ℕ) (i : ℕ) where
   pub same-open : i < length xs → i < length ys
       → sameRows (drop i xs) (drop i ys) ≡ eqb (getD xs i 0) (getD ys i 0) && sameRows (drop (i + 1) xs) (drop (i + 1) ys)

@@ -16,10 +16,11 @@ use Rattle.symplectic.specs.Replies.{fitAll}
 use Rattle.symplectic.proofs.Lists.{all-true}
 use Rattle.symplectic.proofs.Products.{product-length, product-lt}
 use Rattle.symplectic.proofs.Questions.{fit-all}
+use Rattle.symplectic.specs.Picks.{when}
 use Rattle.reduction.specs.Residue.{basis, core, form}
 use Rattle.reduction.proofs.Core.{basis-size}
 use Rattle.family.specs.Family.{borderedFamily}
-use Rattle.bordered.specs.Checks.{vectors, validate, sameRows, verifiesBordered, passing, checkedList, borderedList}
+use Rattle.bordered.specs.Checks.{vectors, validate, sameRows, verifiesBordered, checkedList, borderedList}
 
 pub rows-equal : (xs ys : List ℕ) → sameRows xs ys ≡ true → xs ≡ ys
 rows-equal [] [] e = refl
@@ -65,7 +66,7 @@ checked n F (some l) = go (validate r (form (core n F)) l) (verifiesBordered n F
     vs : List ℕ
     vs = map (λ p. times p (basis n F)) (vectors l)
 
-    go : (a b : Bool) → verifiesBordered n F r vs ≡ b → Passed n F (passing (a && b) vs)
+    go : (a b : Bool) → verifiesBordered n F r vs ≡ b → Passed n F (when (a && b) vs)
     go true true e = verifies n F vs e
     go true false e = tt
     go false b e = tt
@@ -73,9 +74,6 @@ checked n F (some l) = go (validate r (form (core n F)) l) (verifiesBordered n F
 pub bordered-passed : (n : ℕ) (F : List ℕ) → Passed n F (borderedList n F)
 unfolding borderedList
 bordered-passed n F = let r = length (basis n F) in checked n F (borderedFamily (form (core n F)) r (units r))
-
-pub bordered-verified : (n : ℕ) (F vs : List ℕ) → borderedList n F ≡ some vs → Verified n F vs
-bordered-verified n F vs e = subst (Passed n F) e (bordered-passed n F)
 
 -- what is verified fits 2n + 1 words
 pub verified-room : (n : ℕ) (F vs : List ℕ) → Verified n F vs → length vs ≤ n + n + 1

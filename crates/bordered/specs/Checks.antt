@@ -3,13 +3,14 @@
 use mathlib.Core.Bool.{Bool, true, false, _&&_, not}
 use mathlib.Core.List.{List, [], _∷_, map}
 use mathlib.Core.Option.{Option, none, some}
-use Prim.Native.Nat.{ℕ, suc, _+_, _^_}
-use lib.Dec.{eqb, ltb}
+use Prim.Native.Nat.{ℕ, suc, _+_}
+use lib.Dec.{eqb}
 use lib.ListN.{length}
 use Rattle.binar.specs.Bits.{_⊻_, select, _⊕_}
 use Rattle.blocks.specs.Matrices.{times, units}
 use Rattle.symplectic.specs.Turns.{allOf, product}
 use Rattle.symplectic.specs.Replies.{fitAll}
+use Rattle.symplectic.specs.Picks.{when}
 use Rattle.reduction.specs.Columns.{rank}
 use Rattle.reduction.specs.Residue.{basis, core, form}
 use Rattle.family.specs.Family.{borderedFamily}
@@ -55,17 +56,13 @@ unfoldable pub verifiesBordered : ℕ → List ℕ → ℕ → List ℕ → Bool
 verifiesBordered n F r vs =
     eqb (length vs) (suc r) && (allOf (λ v. not (eqb v 0)) vs && (fitAll (n + n) vs && sameRows (product n vs) F))
 
-abbrev pub passing : {A : Type 0} → Bool → A → Option A
-passing true a = some a
-passing false a = none
-
 -- each vector of a family that is validated is multiplied by V, order kept, and these are verified
 unfoldable pub checkedList : ℕ → List ℕ → Option (List (ℕ × Bool)) → Option (List ℕ)
 checkedList n F none = none
 checkedList n F (some l) =
     let r = length (basis n F) in
     let vs = map (λ p. times p (basis n F)) (vectors l) in
-    passing (validate r (form (core n F)) l && verifiesBordered n F r vs) vs
+    when (validate r (form (core n F)) l && verifiesBordered n F r vs) vs
 
 -- the bordered list, begun from unit vectors; none where the candidate does not pass
 unfoldable pub borderedList : ℕ → List ℕ → Option (List ℕ)

@@ -7,8 +7,9 @@ use Prim.Native.Nat.{ℕ, _+_}
 use lib.ListN.{getD, drop}
 use Rattle.blocks.specs.Blocks.{rowsOf}
 use Rattle.symplectic.specs.Turns.{allOf}
+use Rattle.symplectic.specs.Picks.{when}
 use Rattle.bordered.specs.declared.Bordered.{Bordered}
-use Rattle.bordered.specs.Checks.{borderedForm, passing}
+use Rattle.bordered.specs.Checks.{borderedForm}
 
 -- row i has a one on the diagonal, and none behind it
 unfoldable pub rowLower : (ℕ → ℕ → Bool) → List (ℕ × Bool) → ℕ → Bool
@@ -17,4 +18,4 @@ rowLower E l i =
 
 -- the list, where it passed
 unfoldable pub listedOf : Bordered → Option (List ℕ)
-listedOf b = passing (b .passed) (rowsOf (b .list))
+listedOf b = when (b .passed) (rowsOf (b .list))

@@ -4,10 +4,10 @@ use blocks::Block;
 use family::Family;
 use symplectic::Action;
 ghost use mathlib.Core.Path.{_≡_};
-ghost use mathlib.Core.Bool.{false, _&&_, not};
-ghost use Prim.Native.Nat.{ℕ, suc, _<_};
+ghost use mathlib.Core.Bool.{_&&_, not};
+ghost use Prim.Native.Nat.{ℕ, suc};
 ghost use lib.Dec.{eqb, leb};
-ghost use lib.ListN.{length, getD};
+ghost use Rattle.binar.specs.Bits.{_⊻_, dot};
 ghost use Rattle.binar.specs.Rows.{val};
 ghost use Rattle.blocks.specs.Blocks.{rowsOf};
 ghost use Rattle.symplectic.specs.Turns.{allOf, product};
@@ -15,8 +15,7 @@ ghost use Rattle.symplectic.specs.Actions.{capped, qubits, matrix};
 ghost use Rattle.symplectic.specs.Replies.{fitAll};
 ghost use Rattle.reduction.specs.Residue.{form};
 ghost use Rattle.family.specs.Readings.{listOf};
-ghost use Rattle.bordered.specs.Checks.{oddRelation, relationSum, borderedForm, unitLower, validate as validateOf, sameRows, verifiesBordered};
-ghost use Rattle.bordered.specs.Readings.{rowLower};
+ghost use Rattle.bordered.specs.Checks.{oddRelation, relationSum, unitLower, validate as validateOf, sameRows, verifiesBordered};
 
 // Whether each row has only columns below m.
 fn fit_all(m: usize, b: Block) -> bool
@@ -24,7 +23,7 @@ fn fit_all(m: usize, b: Block) -> bool
 {
     let k = blocks::length_of(b);
     for i in 0..k {
-        if !binar::fits(blocks::get(b, i), m) {
+        if !binar::fits(b.rows[i], m) {
             return false;
         }
     }
@@ -36,7 +35,7 @@ fn none_zero(b: Block) -> bool
 {
     let k = blocks::length_of(b);
     for i in 0..k {
-        if binar::is_zero(blocks::get(b, i)) {
+        if binar::is_zero(b.rows[i]) {
             return false;
         }
     }
@@ -68,41 +67,31 @@ fn both_related(peeled: usize, i: usize, j: usize) -> bool
     if i < peeled { false } else { peeled <= j }
 }
 
-// The Gram entry of vectors i and j, plus one where both are in the relation.
-fn gram(core: Block, f: Family, i: usize, j: usize) -> bool
-    requires { ⌜ (i < length (rowsOf (f .vectors))) × (j < length (rowsOf (f .vectors))) ⌝ }
-    ensures { λ r. ⌜ r ≡ borderedForm (form (rowsOf core)) (getD (listOf f) i (0, false)) (getD (listOf f) j (0, false)) ⌝ }
+// The Gram entry of two vectors, the first of them times the core, plus one where both are in the relation.
+fn gram(row: Row, v: Row, both: bool) -> bool
+    ensures { λ r. ⌜ r ≡ dot (val row) (val v) ⊻ both ⌝ }
 {
-    let row = blocks::times(blocks::get(f.vectors, i), core);
-    let entry = binar::dot(row, blocks::get(f.vectors, j));
-    let both = both_related(f.peeled, i, j);
+    let entry = binar::dot(row, v);
     entry != both
 }
 
-// Whether row i has a one on the diagonal, and none behind it.
-fn lower_row(core: Block, f: Family, i: usize) -> bool
-    requires { ⌜ i < length (rowsOf (f .vectors)) ⌝ }
-    ensures { λ r. ⌜ r ≡ rowLower (form (rowsOf core)) (listOf f) i ⌝ }
-{
-    if !gram(core, f, i, i) {
-        return false;
-    }
-    let k = blocks::length_of(f.vectors);
-    for j in i + 1..k {
-        if gram(core, f, i, j) {
-            return false;
-        }
-    }
-    true
-}
-
+// Whether each row has a one on the diagonal, and none behind it.
 fn unit_lower(core: Block, f: Family) -> bool
     ensures { λ r. ⌜ r ≡ unitLower (form (rowsOf core)) (listOf f) ⌝ }
 {
-    let k = blocks::length_of(f.vectors);
+    let vectors = f.vectors;
+    let peeled = f.peeled;
+    let rows = blocks::product(vectors, core);
+    let k = blocks::length_of(vectors);
     for i in 0..k {
-        if !lower_row(core, f, i) {
+        let row = rows.rows[i];
+        if !gram(row, vectors.rows[i], both_related(peeled, i, i)) {
             return false;
+        }
+        for j in i + 1..k {
+            if gram(row, vectors.rows[j], both_related(peeled, i, j)) {
+                return false;
+            }
         }
     }
     true
@@ -112,10 +101,11 @@ fn unit_lower(core: Block, f: Family) -> bool
 fn relation_sum(f: Family) -> Row
     ensures { λ r. ⌜ val r ≡ relationSum (listOf f) ⌝ }
 {
-    let k = blocks::length_of(f.vectors);
+    let vectors = f.vectors;
+    let k = blocks::length_of(vectors);
     let mut w = binar::zero();
     for i in f.peeled..k {
-        w = binar::sum(w, blocks::get(f.vectors, i));
+        w = binar::sum(w, vectors.rows[i]);
     }
     w
 }
@@ -150,7 +140,7 @@ fn product_of(n: u64, b: Block) -> Action
     let k = blocks::length_of(b);
     let mut a = symplectic::identity(n);
     for i in 0..k {
-        a = symplectic::followed(a, blocks::get(b, i));
+        a = symplectic::followed(a, b.rows[i]);
     }
     a
 }

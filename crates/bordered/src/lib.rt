@@ -1,4 +1,5 @@
 // The bordered list of an action, of r + 1 vectors, and the two checks that it passes.
+// In the source: transvection_exact.rs, `BorderedFamily::validate`, `bordered_decomposition`, `verifies_bordered_decomposition`.
 pub mod checks; // checks.rt: the check of a family, and that of its list
 
 use blocks::Block;

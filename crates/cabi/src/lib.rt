@@ -1,5 +1,6 @@
 // The calls by C's conventions: each returns 0, or the number of the first question that is answered no, and then leaves every lent
 // word as it was. include/turnlist.h says the same to C.
+// Not in the source.
 ghost use mathlib.Core.Path.{_≡_};
 ghost use Prim.Native.Nat.{_*_, _≤_};
 ghost use Rattle.blocks.specs.Words.{rowsOfWords};

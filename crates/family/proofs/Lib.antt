@@ -2,3 +2,4 @@ pub mod Members
 pub mod Others
 pub mod Simplices
 pub mod Peeling
+pub mod Sent

@@ -9,11 +9,12 @@ use lib.ListN.{getD}
 use Rattle.binar.specs.Bits.{_⊻_}
 use Rattle.binar.specs.Rows.{val, blank}
 use Rattle.blocks.specs.Matrices.{times, matmul}
+use Rattle.symplectic.specs.Picks.{when}
 use Rattle.triangular.specs.declared.Space.{Space}
 use Rattle.triangular.specs.Readings.{basisOf, formsOf}
 use Rattle.triangular.proofs.Cores.{taken-get, core-row}
 use Rattle.family.specs.declared.Picked.{Picked}
-use Rattle.family.specs.Readings.{whenMade, memberOf}
+use Rattle.family.specs.Readings.{memberOf}
 
 -- two bits that differ
 pub differ : (a b : Bool) → not (Bool·beq a b) ≡ a ⊻ b
@@ -33,8 +34,8 @@ module _ (s : Space) (i : ℕ) (h : i < s .count) where
 
 pub found-is : (p : Picked) → p .found ≡ true → memberOf p ≡ some (val (p .member))
 unfolding memberOf
-found-is p e = ap (λ b. whenMade b (val (p .member))) e
+found-is p e = ap (λ b. when b (val (p .member))) e
 
 pub missed-is : (p : Picked) → p .found ≡ false → memberOf p ≡ none
 unfolding memberOf
-missed-is p e = ap (λ b. whenMade b (val (p .member))) e
+missed-is p e = ap (λ b. when b (val (p .member))) e

@@ -2,25 +2,21 @@
 -- Assumes nothing.
 use mathlib.Core.Bool.{Bool, true, false}
 use mathlib.Core.List.{List, [], _∷_, _++_, map}
-use mathlib.Core.Option.{Option, none, some}
+use mathlib.Core.Option.{Option}
 use Prim.Native.Nat.{ℕ, zero, suc, _-_}
 use lib.ListN.{drop}
 use Rattle.binar.specs.Rows.{val}
 use Rattle.blocks.specs.Blocks.{rowsOf}
 use Rattle.blocks.specs.Matrices.{without}
+use Rattle.symplectic.specs.Picks.{when}
 use Rattle.family.specs.declared.Picked.{Picked}
 use Rattle.family.specs.declared.Simplex.{Simplex}
 use Rattle.family.specs.declared.Family.{Family}
 
--- a value where it was made, else none
-abbrev pub whenMade : {A : Type 0} → Bool → A → Option A
-whenMade true a = some a
-whenMade false a = none
-
 -- ---- what is picked
 
 unfoldable pub memberOf : Picked → Option ℕ
-memberOf p = whenMade (p .found) (val (p .member))
+memberOf p = when (p .found) (val (p .member))
 
 -- ---- a simplex
 
@@ -29,7 +25,7 @@ unfoldable pub othersOf : ℕ → List ℕ → List ℕ
 othersOf j B = without (j - 1) (drop 1 B)
 
 unfoldable pub simplexOf : Simplex → Option (List ℕ)
-simplexOf s = whenMade (s .made) (rowsOf (s .vectors))
+simplexOf s = when (s .made) (rowsOf (s .vectors))
 
 -- ---- a family
 
@@ -44,7 +40,7 @@ unfoldable pub listOf : Family → List (ℕ × Bool)
 listOf f = marked (f .peeled) (rowsOf (f .vectors))
 
 unfoldable pub familyOf : Family → Option (List (ℕ × Bool))
-familyOf f = whenMade (f .made) (listOf f)
+familyOf f = when (f .made) (listOf f)
 
 -- peeled vectors, and a family behind them
 unfoldable pub peeledBefore : List ℕ → List (ℕ × Bool) → List (ℕ × Bool)

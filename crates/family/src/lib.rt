@@ -1,4 +1,5 @@
 // The bordered family of a core: members peeled while one is picked, then the simplex on the alternating rest.
+// In the source: transvection_exact.rs, `bordered_family`, `symplectic_simplex`.
 use binar::Row;
 use blocks::Block;
 use triangular::Space;
@@ -194,11 +195,14 @@ fn behind(a: Block, b: Block, f: Row) -> Block
     requires { ⌜ length (rowsOf a) + length (rowsOf b) ≤ 65 ⌝ }
     ensures { λ r. ⌜ rowsOf r ≡ rowsOf a ++ map (λ (v : ℕ). v ⊕ val f) (rowsOf b) ⌝ }
 {
-    let k = blocks::length_of(b);
+    let m = blocks::length_of(a);
+    let last = m + blocks::length_of(b);
     let mut n = a;
-    for i in 0..k {
-        n = blocks::push(n, binar::sum(blocks::get(b, i), f));
+    for i in m..last {
+        let v = binar::sum(b.rows[i - m], f);
+        n.rows[i] = v;
     }
+    n.count = last;
     n
 }
 
@@ -216,8 +220,17 @@ fn extended(f: Row, p: Row, b: Block) -> Block
     requires { ⌜ length (rowsOf b) ≤ 63 ⌝ }
     ensures { λ r. ⌜ rowsOf r ≡ val p ∷ (val f ⊕ val p) ∷ map (λ (v : ℕ). v ⊕ val f) (rowsOf b) ⌝ }
 {
-    let a = blocks::push(blocks::empty(), p);
-    behind(blocks::push(a, binar::sum(f, p)), b, f)
+    let last = blocks::length_of(b) + 2;
+    let s = binar::sum(f, p);
+    let mut n = blocks::empty();
+    n.rows[0] = p;
+    n.rows[1] = s;
+    for i in 2..last {
+        let v = binar::sum(b.rows[i - 2], f);
+        n.rows[i] = v;
+    }
+    n.count = last;
+    n
 }
 
 // The simplex of a space: that of a pair's remainder, extended by the pair.

@@ -1,4 +1,5 @@
 // Gate sequences: the action of a sequence of gates, laid into lent rows.
+// Not in the source.
 use binar::Row;
 use symplectic::Action;
 use symplectic::Told;

@@ -1,7 +1,7 @@
 -- What the questions of a file answer: each refusal in its turn, the answer where all are passed, and what is known then.
 -- Assumes nothing.
 use mathlib.Core.Path.{_≡_, refl, ap, _∙_}
-use mathlib.Core.Bool.{Bool, true, false, _&&_}
+use mathlib.Core.Bool.{Bool, true, false, _&&_, and-eq-true-iff}
 use mathlib.Core.List.{List}
 use mathlib.Core.Logic.{⊎-elim}
 use Prim.Native.Nat.{ℕ, zero, suc, _+_, _*_, _≤_, _<_}
@@ -14,11 +14,6 @@ use Rattle.symplectic.specs.Replies.{ask, sizeQuestion}
 use Rattle.symplectic.proofs.Questions.{ask-passed, size-refused, size-passed, size-known}
 use Rattle.job.specs.Files.{qubitCount, entryCount, Entry, entry, partSize, entryPasses, entriesPass, fileQuestions}
 
-both : (a b : Bool) → (a && b) ≡ true → (a ≡ true) × (b ≡ true)
-both true true e = (refl, refl)
-both true false e = let z : _≡_ {A = ℕ} 0 1 = cc in absurd (omega arith)
-both false b e = let z : _≡_ {A = ℕ} 0 1 = cc in absurd (omega arith)
-
 no-second : (a b : Bool) → b ≡ false → (a && b) ≡ false
 no-second true b e = e
 no-second false b e = refl
@@ -30,8 +25,8 @@ module _ (file : List ℕ) (e : Entry) where
   pub entry-known : entryPasses file e ≡ true → (e .kind < 2) × (e .zeroByte ≡ 0) × (e .offset + partSize e ≤ length file)
   unfolding entryPasses
   entry-known p =
-      let k = both (ltb (e .kind) 2) (eqb (e .zeroByte) 0 && leb (e .offset + partSize e) (length file)) p in
-      let l = both (eqb (e .zeroByte) 0) (leb (e .offset + partSize e) (length file)) (k .1) in
+      let k = and-eq-true-iff (ltb (e .kind) 2) (eqb (e .zeroByte) 0 && leb (e .offset + partSize e) (length file)) .0 p in
+      let l = and-eq-true-iff (eqb (e .zeroByte) 0) (leb (e .offset + partSize e) (length file)) .0 (k .1) in
       (ltb-true (e .kind) 2 (k .0), eqb-true (e .zeroByte) 0 (l .0), leb-true (e .offset + partSize e) (length file) (l .1))
 
   pub entry-kind : 1 < e .kind → entryPasses file e ≡ false
@@ -73,7 +68,7 @@ module _ (file : List ℕ) where
   unfolding entriesPass
   entries-known zero e i h = absurd (omega arith)
   entries-known (suc k) e i h =
-      let t = both (entriesPass file k) (entryPasses file (entry file k)) e in
+      let t = and-eq-true-iff (entriesPass file k) (entryPasses file (entry file k)) .0 e in
       ⊎-elim (λ (same : i ≡ k). rw same (t .1)) (λ (l : i < k). entries-known k (t .0) i l) (eq-or-lt-of-le (le-of-suc-le-suc h))
 
 -- ---- the file
@@ -129,19 +124,9 @@ module _ (file : List ℕ) where
     behind-size : (qubitCount file ≤ 32) × (last ≡ 0)
     behind-size = size-known (qubitCount file) last (behind-length .1)
 
-    pub passed-length : (4 ≤ length file) × (length file ≤ 65536) × (4 + 8 * entryCount file ≤ length file)
-    unfolding lengthPasses
-    passed-length =
-        let k = both (leb 4 (length file)) (leb (length file) 65536 && leb (4 + 8 * entryCount file) (length file)) (behind-length .0) in
-        let l = both (leb (length file) 65536) (leb (4 + 8 * entryCount file) (length file)) (k .1) in
-        (leb-true 4 (length file) (k .0), leb-true (length file) 65536 (l .0), leb-true (4 + 8 * entryCount file) (length file) (l .1))
-
     pub passed-qubits : qubitCount file ≤ 32
     passed-qubits = behind-size .0
 
     pub passed-entry : (i : ℕ) → i < entryCount file → entryPasses file (entry file i) ≡ true
     unfolding last
     passed-entry = entries-known file (entryCount file) (ask-passed (entriesPass file (entryCount file)) 12 0 (behind-size .1) .0)
-
-    pub passed-part : (i : ℕ) → i < entryCount file → entry file i .offset + partSize (entry file i) ≤ length file
-    passed-part i h = entry-known file (entry file i) (passed-entry i h) .2

@@ -5,9 +5,9 @@ use mathlib.Core.List.{List, [], _∷_}
 use Prim.Native.Nat.{ℕ, zero, suc, _+_, _*_, _-_, _^_, _≤_, _<_}
 use native.Mathlib.Omega.{arith}
 use native.Mathlib.Nat.{pow-suc, pow-le-pow-right, zero-add, suc-add, sub-self}
-use lib.ListN.{length, getD, take, drop, length-drop, drop-of-length-le}
-use lib.Seq.{take-nil, drop-nil, take-take, drop-drop, length-take-le}
-use Rattle.job.specs.Files.{littleEndian, part, number, qubitCount, entryCount, Entry, entry, itemSize, partSize}
+use lib.ListN.{length, getD, take, drop, drop-of-length-le}
+use lib.Seq.{take-nil, drop-nil, take-take, drop-drop}
+use Rattle.job.specs.Files.{littleEndian, part, number, Entry, entry, itemSize, partSize}
 use Rattle.job.specs.Answers.{Bytes}
 
 -- ---- the first byte, and the others
@@ -48,22 +48,6 @@ module _ (file : List ℕ) (bytes : Bytes file) where
   pub number-below : (size from : ℕ) → number file from size < 256 ^ size
   number-below zero from = rw (number-none file from) (omega arith)
   number-below (suc size) from = rw (number-step file from size) (bound-more _ _ size (suc size) refl (bytes from) (number-below size (suc from)))
-
-  pub qubits-below : qubitCount file < 65536
-  unfolding qubitCount
-  qubits-below = number-below 2 0
-
-  pub entries-below : entryCount file < 65536
-  unfolding entryCount
-  entries-below = number-below 2 2
-
-  pub count-below : (i : ℕ) → entry file i .count < 65536
-  unfolding entry
-  count-below i = number-below 2 (4 + 8 * i + 2)
-
-  pub offset-below : (i : ℕ) → entry file i .offset < 4294967296
-  unfolding entry
-  offset-below i = number-below 4 (4 + 8 * i + 4)
 
 -- ---- a number read from its last byte: before the first byte that is read, and behind the last
 
@@ -134,7 +118,3 @@ part-of-part file offset size skip width h =
 pub number-of-part : (file : List ℕ) (offset size skip width : ℕ) → skip + width ≤ size → number (part file offset size) skip width ≡ number file (offset + skip) width
 unfolding number
 number-of-part file offset size skip width h = ap littleEndian (part-of-part file offset size skip width h)
-
-pub part-length : (file : List ℕ) (offset size : ℕ) → offset + size ≤ length file → length (part file offset size) ≡ size
-unfolding part
-part-length file offset size h = length-take-le size (drop offset file) (rw length-drop (omega arith))

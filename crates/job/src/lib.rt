@@ -1,4 +1,5 @@
 // The job file, read from lent bytes: its numbers, its entries, and the questions of the whole file.
+// Not in the source.
 ghost use mathlib.Core.Path.{_≡_};
 ghost use Prim.Native.Nat.{_+_, _*_, _^_, _<_, _≤_};
 ghost use lib.ListN.{getD};

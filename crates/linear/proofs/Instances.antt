@@ -1,15 +1,19 @@
 -- The spaces in use: the two elements, rows of bits under their sum, and pairs.
 -- Assumes nothing.
-use mathlib.Core.Bool.{Bool, false}
-use mathlib.Core.Path.{refl}
+use mathlib.Core.Bool.{Bool, true, false}
+use mathlib.Core.Path.{_≡_, refl}
 use Prim.Native.Nat.{ℕ}
 use Rattle.binar.specs.Bits.{_⊻_, _⊕_}
 use Rattle.binar.proofs.Sums.{bxor-assoc, bxor-comm, bxor-self, sum-assoc, sum-comm, sum-self, zero-sum}
-use Rattle.linear.specs.Space.{Space}
+use Rattle.linear.specs.Space.{Space, scale}
 
 -- the two elements themselves
 abbrev pub 𝔹 : Space
 𝔹 = record { Car = Bool; add = _⊻_; o = false; add-assoc = bxor-assoc; add-comm = bxor-comm; add-self = bxor-self; zero-add = λ x. refl }
+
+pub scale-true : (c : Bool) → scale 𝔹 c true ≡ c
+scale-true true = refl
+scale-true false = refl
 
 -- rows
 abbrev pub 𝕎 : Space

@@ -33,10 +33,6 @@ module _ (S : Space) where
   scale-xor true false v = sym (add-zero v)
   scale-xor false b v = sym (zero-add (scale S b v))
 
-  pub scale-add : (c : Bool) (v w : Car) → scale S c (v ⊕ w) ≡ scale S c v ⊕ scale S c w
-  scale-add true v w = refl
-  scale-add false v w = sym (zero-add o)
-
   pub scale-o : (c : Bool) → scale S c o ≡ o
   scale-o true = refl
   scale-o false = refl

@@ -1,1 +1,2 @@
 // Nothing runs here: the theory of spaces over two elements.
+// Not in the source.

@@ -1,9 +1,10 @@
 // A line of the printout, by value. Each function writes behind the bytes that a line has.
+// Not in the source.
 use binar::Row;
 use symplectic::Told;
 ghost use mathlib.Core.Path.{_≡_};
 ghost use mathlib.Core.List.{[], _∷_, _++_};
-ghost use Prim.Native.Nat.{_+_, min};
+ghost use Prim.Native.Nat.{_+_};
 ghost use lib.ListN.{take};
 ghost use Rattle.binar.specs.Rows.{val};
 ghost use Rattle.blocks.specs.Words.{rowsOfWords};
@@ -22,15 +23,9 @@ pub enum Name {
 }
 
 // A number as its tens and its last digit: a load may pass 64 bits.
-pub struct Tally {
+struct Tally {
     pub tens: u64,
     pub unit: u64,
-}
-
-fn lesser(m: usize, n: usize) -> usize
-    ensures { λ r. ⌜ r ≡ min m n ⌝ }
-{
-    if m < n { m } else { n }
 }
 
 pub fn empty() -> Line
@@ -42,7 +37,7 @@ pub fn empty() -> Line
     }
 }
 
-pub fn push(l: Line, b: u8) -> Line
+fn push(l: Line, b: u8) -> Line
     ensures { λ r. ⌜ bytesOf r ≡ take lineRoom (bytesOf l ++ (b ∷ [])) ⌝ }
 {
     let k = l.count;
@@ -59,8 +54,8 @@ pub fn push(l: Line, b: u8) -> Line
 fn append(l: Line, text: &[u8]) -> Line
     ensures { λ r. ⌜ bytesOf r ≡ take lineRoom (bytesOf l ++ now (text .entry)) ⌝ }
 {
-    let k = lesser(l.count, 4608);
-    let m = lesser(text.len(), 4608 - k);
+    let k = blocks::lesser(l.count, 4608);
+    let m = blocks::lesser(text.len(), 4608 - k);
     let mut n = l;
     for q in 0..m {
         n.bytes[k + q] = text[q];
@@ -78,7 +73,7 @@ fn tally_of(v: u64) -> Tally
     }
 }
 
-pub fn decimal(l: Line, v: Tally) -> Line
+fn decimal(l: Line, v: Tally) -> Line
     ensures { λ r. ⌜ bytesOf r ≡ take lineRoom (bytesOf l ++ decimalOf (tallied v)) ⌝ }
 {
     let d = (48 + v.unit % 10) as u8;
@@ -89,13 +84,13 @@ pub fn decimal(l: Line, v: Tally) -> Line
     }
 }
 
-pub fn field(l: Line, v: Tally) -> Line
+fn field(l: Line, v: Tally) -> Line
     ensures { λ r. ⌜ bytesOf r ≡ take lineRoom (bytesOf l ++ fieldOf (tallied v)) ⌝ }
 {
     decimal(push(l, 32), v)
 }
 
-pub fn append_name(l: Line, which: Name) -> Line
+fn append_name(l: Line, which: Name) -> Line
     ensures { λ r. ⌜ bytesOf r ≡ take lineRoom (bytesOf l ++ nameBytes which) ⌝ }
 {
     match which {
@@ -105,7 +100,7 @@ pub fn append_name(l: Line, which: Name) -> Line
 }
 
 // The letter of a qubit with bits x and z.
-pub fn letter(x: bool, z: bool) -> u8
+fn letter(x: bool, z: bool) -> u8
     ensures { λ r. ⌜ r ≡ letterOf x z ⌝ }
 {
     if z {
@@ -116,11 +111,11 @@ pub fn letter(x: bool, z: bool) -> u8
 }
 
 // The letters of a vector of n qubits.
-pub fn letters(l: Line, n: usize, v: Row) -> Line
+fn letters(l: Line, n: usize, v: Row) -> Line
     ensures { λ r. ⌜ bytesOf r ≡ take lineRoom (bytesOf l ++ lettersOf n (val v)) ⌝ }
 {
-    let k = lesser(l.count, 4608);
-    let m = lesser(n, 4608 - k);
+    let k = blocks::lesser(l.count, 4608);
+    let m = blocks::lesser(n, 4608 - k);
     let high = binar::shift_down(v, n);
     let mut out = l;
     for q in 0..m {
@@ -131,7 +126,7 @@ pub fn letters(l: Line, n: usize, v: Row) -> Line
 }
 
 // Each vector, after a space.
-pub fn spelled(l: Line, n: usize, words: &[u64]) -> Line
+fn spelled(l: Line, n: usize, words: &[u64]) -> Line
     ensures { λ r. ⌜ bytesOf r ≡ take lineRoom (bytesOf l ++ spelledOf n (rowsOfWords (now (words .entry)))) ⌝ }
 {
     let mut out = l;
@@ -142,7 +137,7 @@ pub fn spelled(l: Line, n: usize, words: &[u64]) -> Line
 }
 
 // The count of ones in the vectors.
-pub fn load(words: &[u64]) -> Tally
+fn load(words: &[u64]) -> Tally
     ensures { λ r. ⌜ tallied r ≡ loadOf (rowsOfWords (now (words .entry))) ⌝ }
 {
     let mut tens: u64 = 0;
@@ -180,7 +175,7 @@ fn numbers(l: Line, told: Told, load: Tally) -> Line
 pub fn entry_line(n: u64, i: u64, which: Name, told: Told, words: &[u64]) -> Line
     ensures { λ r. ⌜ bytesOf r ≡ take lineRoom (lineOf n i (nameBytes which) (replyOf told (now (words .entry)))) ⌝ }
 {
-    let k = lesser(told.count as usize, words.len());
+    let k = blocks::lesser(told.count as usize, words.len());
     let vs = &words[..k];
     let head = numbers(front(i, which), told, load(vs));
     push(spelled(head, n as usize, vs), 10)

@@ -1,7 +1,7 @@
 -- Which entries are readable, and the lines of one that is not; the words of a part, one by one.
 -- Assumes nothing.
 use mathlib.Core.Path.{_≡_, refl, sym, ap, _∙_}
-use mathlib.Core.Bool.{Bool, true, false, _&&_}
+use mathlib.Core.Bool.{Bool, true, false, _&&_, and-eq-true-iff}
 use mathlib.Core.List.{List, [], _∷_, _++_}
 use Prim.Native.Nat.{ℕ, zero, suc, _+_, _-_, _*_, _≤_, _<_}
 use native.Mathlib.Omega.{arith}
@@ -18,11 +18,6 @@ use Rattle.printout.specs.Printout.{wordsOfBytes, minLine, greedyLine}
 use Rattle.printout.specs.Entries.{readable, minLineAt, greedyLineAt}
 
 -- ---- readable entries
-
-both : (a b : Bool) → (a && b) ≡ true → (a ≡ true) × (b ≡ true)
-both true true e = (refl, refl)
-both true false e = let z : _≡_ {A = ℕ} 0 1 = cc in absurd (omega arith)
-both false b e = let z : _≡_ {A = ℕ} 0 1 = cc in absurd (omega arith)
 
 module _ (file : List ℕ) (i : ℕ) where
   pub readable-wide : 32 < qubitCount file → readable file i ≡ false
@@ -43,8 +38,8 @@ module _ (file : List ℕ) (i : ℕ) where
   pub readable-known : readable file i ≡ true → (qubitCount file ≤ 32) × (entryPasses file (entry file i) ≡ true)
   unfolding readable maxQubits
   readable-known e =
-      let k = both (leb (qubitCount file) 32) (ltb i (entryCount file) && entryPasses file (entry file i)) e in
-      (leb-true (qubitCount file) 32 (k .0), both (ltb i (entryCount file)) (entryPasses file (entry file i)) (k .1) .1)
+      let k = and-eq-true-iff (leb (qubitCount file) 32) (ltb i (entryCount file) && entryPasses file (entry file i)) .0 e in
+      (leb-true (qubitCount file) 32 (k .0), and-eq-true-iff (ltb i (entryCount file)) (entryPasses file (entry file i)) .0 (k .1) .1)
 
   pub greedy-at : (b : Bool) → readable file i ≡ b → greedyLineAt file i ≡ select [] b (greedyLine file i)
   unfolding greedyLineAt

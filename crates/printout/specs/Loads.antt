@@ -1,7 +1,6 @@
--- What the code loads of an entry, and what it tells of a call's answer.
+-- What the code loads of an entry.
 -- Assumes nothing.
 use mathlib.Core.Path.{_≡_}
-use mathlib.Core.List.{List}
 use mathlib.Core.Logic.{_⊎_}
 use Prim.Native.Nat.{ℕ, _+_, _<_}
 use lib.ListN.{length, take}

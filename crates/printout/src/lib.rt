@@ -1,4 +1,5 @@
 // The lines of a job file's entries, by their number: the greedy list and the minimal list of each entry's action.
+// Not in the source.
 use lines::Line;
 use lines::Name;
 ghost use mathlib.Core.Path.{_≡_};

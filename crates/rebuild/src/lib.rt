@@ -1,4 +1,5 @@
 // The rebuild: the product of a lent list, laid into lent rows.
+// Not in the source.
 use symplectic::Told;
 ghost use mathlib.Core.Path.{_≡_};
 ghost use Rattle.blocks.specs.Words.{rowsOfWords};

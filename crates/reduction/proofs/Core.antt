@@ -1,9 +1,8 @@
 -- The residue of an action, its basis and transform, and the core: the basis spans what the action adds, and the core is the form of its residue.
 -- Assumes nothing.
-use mathlib.Core.Path.{_≡_, refl, sym, ap, ap₂, _∙_, subst}
-use mathlib.Core.List.{List, [], _∷_, _++_, map, map-map, map-append}
+use mathlib.Core.Path.{_≡_, sym, ap, ap₂, _∙_, subst}
+use mathlib.Core.List.{List, _++_, map, map-map, map-append}
 use Prim.Native.Nat.{ℕ, _+_, _*_, _/_, _%_, _^_, _≤_, _<_}
-use native.Mathlib.Nat.{suc-ne-zero}
 use lib.ListN.{length, length-map, take, drop}
 use lib.Seq.{take-at, drop-at}
 use Rattle.binar.specs.Bits.{bit, dot, _⊕_}
@@ -24,11 +23,11 @@ use Rattle.symplectic.proofs.Lists.{map-eq, eq-map}
 use Rattle.symplectic.proofs.Pairings.{swap-sum, swap-swap, swap-over, swap-low, swap-high, pairing-swap}
 use Rattle.symplectic.proofs.Layers.{added, added-sum, added-lt, added-over, identityPlus-is}
 use Rattle.reduction.specs.Columns.{reduced, rank, pivots}
-use Rattle.reduction.specs.Residue.{residue, reduction, basis, transform, timesTransposed, core, form}
+use Rattle.reduction.specs.Residue.{residue, reduction, basis, transform, core, form}
 use Rattle.reduction.proofs.Echelon.{Rref}
-use Rattle.reduction.proofs.Reduced.{reduced-rref, pivots-lt, reduced-indep, reduced-lt, reduced-out, rank-width}
+use Rattle.reduction.proofs.Reduced.{reduced-rref, reduced-indep, reduced-lt, reduced-out, rank-width}
 use Rattle.reduction.proofs.Transform.{basis-row-is, basis-transform-lt, basis-reduced}
-use Rattle.reduction.proofs.Forms.{form-transposed, transposed-length, transposed-lt}
+use Rattle.reduction.proofs.Forms.{form-transposed, transposed-length}
 
 -- ---- of any action
 
@@ -48,18 +47,11 @@ pub basis-rank : (n : ℕ) (F : List ℕ) → length (basis n F) ≡ rank (n + n
 unfolding rank
 basis-rank n F = ap length (basis-plain n F)
 
-pub transform-size : (n : ℕ) (F : List ℕ) → length (transform n F) ≡ length (basis n F)
-unfolding transform basis
-transform-size n F = length-map (reduction n F .up) (λ a. a .1) ∙ sym (length-map (reduction n F .up) (λ a. a .0))
-
 pub basis-indep : (n : ℕ) (F : List ℕ) → Indep 𝕎 (basis n F)
 basis-indep n F = subst (Indep 𝕎) (sym (basis-plain n F)) (reduced-indep (n + n) (residue n F))
 
 pub basis-rref : (n : ℕ) (F : List ℕ) → Rref bit (pivots (n + n) (basis n F)) (basis n F)
 basis-rref n F = subst (λ B. Rref bit (pivots (n + n) B) B) (sym (basis-plain n F)) (reduced-rref (n + n) (residue n F))
-
-pub basis-pivots-lt : (n : ℕ) (F : List ℕ) → All (λ p. p < n + n) (pivots (n + n) (basis n F))
-basis-pivots-lt n F = subst (λ B. All (λ p. p < n + n) (pivots (n + n) B)) (sym (basis-plain n F)) (pivots-lt (n + n) (residue n F))
 
 -- pEq is the dot of what p takes of the basis and q of the transform
 pub core-form : (n : ℕ) (F : List ℕ) (p q : ℕ) → form (core n F) p q ≡ dot (times p (basis n F)) (times q (transform n F))
@@ -69,17 +61,6 @@ core-form n F p q = form-transposed (basis n F) (transform n F) p q
 pub core-length : (n : ℕ) (F : List ℕ) → length (core n F) ≡ length (basis n F)
 unfolding core
 core-length n F = transposed-length (basis n F) (transform n F)
-
-pub core-lt : (n : ℕ) (F : List ℕ) → All (λ v. v < 2 ^ length (basis n F)) (core n F)
-unfolding core
-core-lt n F = subst (λ r. All (λ v. v < 2 ^ r) (timesTransposed (basis n F) (transform n F))) (transform-size n F) (transposed-lt (basis n F) (transform n F))
-
-pub core-zero : (n : ℕ) (F : List ℕ) → length (basis n F) ≡ 0 → core n F ≡ []
-core-zero n F e = empty (core n F) (core-length n F ∙ e)
-  where
-    empty : (l : List ℕ) → length l ≡ 0 → l ≡ []
-    empty [] z = refl
-    empty (x ∷ xs) z = absurd (suc-ne-zero (length xs) z)
 
 -- ---- of an action of 2n rows
 

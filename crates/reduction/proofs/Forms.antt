@@ -2,13 +2,12 @@
 -- Assumes nothing.
 use mathlib.Core.Path.{_≡_, refl, sym, ap, ap₂, _∙_}
 use mathlib.Core.List.{List, [], _∷_, map}
-use Prim.Native.Nat.{ℕ, _*_, _+_, _^_, _<_}
+use Prim.Native.Nat.{ℕ, _*_, _+_}
 use lib.ListN.{length, length-map}
 use Rattle.binar.specs.Bits.{_⊻_, _⊕_, digit, dot}
 use Rattle.binar.proofs.Dots.{dot-sum, sum-dot}
-use Rattle.blocks.specs.Matrices.{times, dots, All}
-use Rattle.blocks.proofs.All.{All·any, All·to-map}
-use Rattle.blocks.proofs.Products.{times-sum, dot-times, dots-lt}
+use Rattle.blocks.specs.Matrices.{times, dots}
+use Rattle.blocks.proofs.Products.{times-sum, dot-times}
 use Rattle.linear.specs.Maps.{Form}
 use Rattle.linear.proofs.Instances.{𝕎}
 use Rattle.reduction.specs.Residue.{timesTransposed, form}
@@ -37,7 +36,3 @@ form-transposed B R p q = dot-times (map (dots R) B) p q ∙ ap (dot p) (dots-tr
 pub transposed-length : (B R : List ℕ) → length (timesTransposed B R) ≡ length B
 unfolding timesTransposed
 transposed-length B R = length-map B (dots R)
-
-pub transposed-lt : (B R : List ℕ) → All (λ v. v < 2 ^ length R) (timesTransposed B R)
-unfolding timesTransposed
-transposed-lt B R = All·to-map (dots R) (λ v. v < 2 ^ length R) B (All·any (dots-lt R) B)

@@ -1,19 +1,16 @@
--- The rows of I + F one by one, parts of them pushed behind each other, and the basis and the core as front parts of a reduction.
+-- The rows of I + F one by one, the halves of a list exchanged, and the basis and the core as front parts of a reduction.
 -- Assumes nothing.
 use mathlib.Core.Path.{_≡_, refl, sym, ap, ap₂, _∙_}
-use mathlib.Core.List.{List, [], _∷_, _++_, map, map-append, append-assoc, zipWith}
-use Prim.Native.Nat.{ℕ, zero, suc, _+_, _^_, _≤_, _<_}
+use mathlib.Core.List.{List, [], _∷_, _++_, map, map-append, zipWith}
+use Prim.Native.Nat.{ℕ, zero, suc, _+_, _-_, _^_, _≤_, _<_}
 use native.Mathlib.Omega.{arith}
 use native.Mathlib.Nat.{not-suc-le-zero, le-of-suc-le-suc}
-use native.Mathlib.Numerals.{add-one}
-use lib.ListN.{length, take, drop, getD, length-map, length-append, length-take, length-drop, drop-of-length-le}
-use lib.Seq.{take-all, take-at, take-suc, drop-append-le, length-take-le}
+use lib.ListN.{length, take, drop, getD, length-map, length-append, length-drop, List·getD-append}
+use lib.Seq.{take-all, take-at, getD-append-add, getD-take, getD-drop}
 use Rattle.binar.specs.Bits.{_⊕_}
 use Rattle.binar.specs.Rows.{width}
-use Rattle.blocks.specs.Blocks.{room}
 use Rattle.blocks.specs.Matrices.{units}
 use Rattle.blocks.proofs.Units.{units-length, units-at}
-use Rattle.blocks.proofs.Values.{push-fits}
 use Rattle.symplectic.specs.Turns.{identityPlus}
 use Rattle.symplectic.proofs.Layers.{added, identityPlus-is}
 use Rattle.reduction.specs.Columns.{Halves, rowReduceWithTransform}
@@ -39,36 +36,24 @@ module _ (n : ℕ) (F : List ℕ) (size : length F ≡ n + n) where
   plus-at i h =
       zipWith-at _⊕_ F (units (n + n)) i (omega arith) (omega (arith, units-length (n + n))) ∙ ap (λ u. getD F i 0 ⊕ u) (units-at i (n + n) h)
 
--- ---- the part of a list from j to i
-
-pub part-none : (j : ℕ) (l : List ℕ) → drop j (take j l) ≡ []
-part-none j l = drop-of-length-le (take j l) {i = j} (omega (arith, length-take j l))
-
--- one row more, behind others, where there is room
-pub part-more : (b l : List ℕ) (j i k : ℕ) → j ≤ i → i < k → k ≤ length l → length b + k ≤ j + 65
-    → take room ((b ++ drop j (take i l)) ++ (getD l i 0 ∷ [])) ≡ b ++ drop j (take (i + 1) l)
-part-more b l j i k h g f s =
-    let t : length (take i l) ≡ i = length-take-le i l (omega arith) in
-    let d = length-drop j (take i l) in
-    let x = getD l i 0 in
-    push-fits (b ++ drop j (take i l)) x (omega (arith, length-append b (drop j (take i l)))) ∙ append-assoc b (drop j (take i l)) (x ∷ [])
-    ∙ ap (λ m. b ++ m)
-    (sym (ap (λ m. drop j (take m l)) (add-one i) ∙ ap (drop j) (take-suc l i 0 (omega arith)) ∙ drop-append-le j (take i l) (x ∷ []) (omega arith)))
-
--- the two halves of I + F, the lower one first
-module _ (n q : ℕ) (F b lower : List ℕ) (size : length F ≡ q + q) (same : n ≡ q) (none : b ≡ [])
-    (is : lower ≡ b ++ drop n (take (n + n) (identityPlus q F))) where
-  lower-is : lower ≡ drop q (identityPlus q F)
-  lower-is =
-      is ∙ ap (λ m. m ++ drop n (take (n + n) (identityPlus q F))) none ∙ ap (λ k. drop k (take (k + k) (identityPlus q F))) same
-      ∙ ap (drop q) (take-all (q + q) (identityPlus q F) (omega (arith, plus-length q F size)))
-
-  pub lower-length : length lower ≡ n
-  lower-length = ap length lower-is ∙ length-drop q (identityPlus q F) ∙ omega (arith, plus-length q F size)
-
-  pub halves-joined : (all : List ℕ) → all ≡ lower ++ drop 0 (take n (identityPlus q F)) → all ≡ residue q F
+  -- row i of the residue is row j of I + F, where that is so of every list whose halves are exchanged
+  pub residue-at : (k i j : ℕ) → k ≡ n → j < k + k → ((l : List ℕ) → length l ≡ k + k → getD (drop k l ++ take k l) i 0 ≡ getD l j 0)
+      → getD F j 0 ⊕ 2 ^ j ≡ getD (residue n F) i 0
   unfolding residue
-  halves-joined all e = e ∙ ap₂ (λ m k. m ++ take k (identityPlus q F)) lower-is same
+  residue-at k i j e h g =
+      let l = identityPlus n F in
+      sym (ap (λ m. getD (drop m l ++ take m l) i 0) (sym e) ∙ g l (omega (arith, plus-length)) ∙ plus-at j (omega arith))
+
+-- ---- the upper and lower half of a list, exchanged
+
+pub lower-at : (n i : ℕ) (l : List ℕ) → i < n → length l ≡ n + n → getD (drop n l ++ take n l) i 0 ≡ getD l (i + n) 0
+lower-at n i l h e =
+    List·getD-append (drop n l) (take n l) 0 i (omega (arith, length-drop n l)) ∙ getD-drop n l i 0 ∙ ap (λ k. getD l k 0) (omega arith)
+
+pub upper-at : (n i : ℕ) (l : List ℕ) → n ≤ i → i < n + n → length l ≡ n + n → getD (drop n l ++ take n l) i 0 ≡ getD l (i - n) 0
+upper-at n i l h g e =
+    let k : i ≡ length (drop n l) + (i - n) = omega (arith, length-drop n l) in
+    ap (λ x. getD (drop n l ++ take n l) x 0) k ∙ getD-append-add (drop n l) (take n l) (i - n) 0 ∙ getD-take n l (i - n) 0 (omega arith)
 
 -- ---- the basis and the core
 

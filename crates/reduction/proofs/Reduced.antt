@@ -5,7 +5,7 @@ use mathlib.Core.Bool.{Bool, true, false}
 use mathlib.Core.List.{List, [], _∷_}
 use Prim.Native.Nat.{ℕ, zero, suc, _+_, _/_, _^_, _≤_, _<_, suc-le-suc}
 use native.Mathlib.Omega.{arith}
-use native.Mathlib.Nat.{le-refl, le-antisymm, le-of-suc-le-suc, not-suc-le-zero, zero-lt-suc}
+use native.Mathlib.Nat.{le-refl, le-of-suc-le-suc, not-suc-le-zero, zero-lt-suc}
 use lib.Count.{trailingZeros, under}
 use lib.ListN.{length, getD, length-append}
 use lib.Pow.{pow-pos}
@@ -18,8 +18,8 @@ use Rattle.blocks.proofs.Units.{units-length}
 use Rattle.linear.specs.Space.{scale}
 use Rattle.linear.specs.Span.{InSpan, Indep}
 use Rattle.linear.proofs.Sums.{add-zero, scale-o}
-use Rattle.linear.proofs.Exchange.{span-zero, span-add, span-scale, span-members, span-trans, steinitz, steinitz-indep}
-use Rattle.linear.proofs.Instances.{𝔹, 𝕎}
+use Rattle.linear.proofs.Exchange.{span-zero, span-add, span-scale, span-members, span-trans, steinitz}
+use Rattle.linear.proofs.Instances.{𝔹, 𝕎, scale-true}
 use Rattle.linear.proofs.Maps.{map-at, span-kernel}
 use Rattle.linear.proofs.Rows.{times-in, units-span, span-lt}
 use Rattle.symplectic.proofs.Lists.{All·each}
@@ -55,11 +55,7 @@ times-pivot (p ∷ ps) (u ∷ us) r c zero l =
     map-at 𝕎 𝔹 (bit p) (bit-sum p) (times (c / 2) us) (odd c) u
     ∙ ap₂ (λ s t. s ⊻ scale 𝔹 (odd c) t)
     (span-kernel 𝕎 𝔹 (bit p) (bit-sum p) us (tail-zero bit p p ps u us r (le-refl (suc p))) (times (c / 2) us) (times-in (c / 2) us)) (r .0)
-    ∙ whole (odd c) ∙ sym (bit-zero-is-odd c)
-  where
-    whole : (b : Bool) → scale 𝔹 b true ≡ b
-    whole true = refl
-    whole false = refl
+    ∙ scale-true (odd c) ∙ sym (bit-zero-is-odd c)
 times-pivot (p ∷ ps) (u ∷ us) r c (suc i) l =
     map-at 𝕎 𝔹 (bit (getD ps i 0)) (bit-sum (getD ps i 0)) (times (c / 2) us) (odd c) u
     ∙ ap₂ (λ s t. s ⊻ scale 𝔹 (odd c) t) (times-pivot ps us (r .3) (c / 2) i (le-of-suc-le-suc l)) none
@@ -100,9 +96,6 @@ module _ (m : ℕ) (M : List ℕ) where
   -- the rows above are an echelon list, with these pivots
   pub reduced-rref : Rref bit (pivots m (reduced m M .up)) (reduced m M .up)
   reduced-rref = subst (λ ps. Rref bit ps (reduced m M .up)) found-are (found .1)
-
-  pub pivots-lt : All (λ p. p < m) (pivots m (reduced m M .up))
-  pivots-lt = subst (All (λ p. p < m)) found-are found-lt
 
   pub reduced-indep : Indep 𝕎 (reduced m M .up)
   reduced-indep = rref-indep 𝕎 bit bit-sum (found .0) (reduced m M .up) (found .1)
@@ -149,20 +142,6 @@ module _ (m : ℕ) (M : List ℕ) where
         omega (arith, units-length m)
 
 -- ---- the rank is the dimension of the span
-
-pub rank-is : (m : ℕ) (M bs : List ℕ) → All (λ v. v < 2 ^ m) M → Indep 𝕎 bs → All (InSpan 𝕎 M) bs → All (InSpan 𝕎 bs) M → rank m M ≡ length bs
-unfolding rank
-rank-is m M bs a i to back =
-    le-antisymm
-    (steinitz 𝕎 bs (reduced m M .up) (reduced-indep m M) (All·map (λ x k. span-trans 𝕎 M bs x back k) (reduced m M .up) (basis-in m M)))
-    (steinitz 𝕎 (reduced m M .up) bs i (All·map (λ x k. span-trans 𝕎 M (reduced m M .up) x (reduced-out m M a) k) bs to))
-
-pub rank-of-indep : (m : ℕ) (M : List ℕ) → All (λ v. v < 2 ^ m) M → Indep 𝕎 M → rank m M ≡ length M
-rank-of-indep m M a i = rank-is m M M a i (span-members 𝕎 M) (span-members 𝕎 M)
-
-pub indep-of-rank : (m : ℕ) (M : List ℕ) → rank m M ≡ length M → Indep 𝕎 M
-unfolding rank
-indep-of-rank m M e = steinitz-indep 𝕎 M (reduced m M .up) (reduced-indep m M) (basis-in m M) e
 
 -- rows with one span have one reduced basis
 pub reduced-unique : (m : ℕ) (M N : List ℕ) → All (λ v. v < 2 ^ m) M → All (λ v. v < 2 ^ m) N → All (InSpan 𝕎 N) M → All (InSpan 𝕎 M) N

@@ -2,17 +2,18 @@
 -- Assumes nothing.
 use mathlib.Core.Path.{_≡_, refl, sym, ap, ap₂, _∙_, subst}
 use mathlib.Core.Bool.{Bool, true, false, not, _&&_}
-use mathlib.Core.List.{List, [], _∷_, map}
+use mathlib.Core.List.{List, [], _∷_}
 use mathlib.Core.Logic.{⊎-elim}
 use Prim.Native.Nat.{ℕ, zero, suc, _+_, _≤_, _<_}
 use native.Mathlib.Omega.{arith}
 use native.Mathlib.Nat.{not-suc-le-zero, le-of-suc-le-suc, eq-or-lt-of-le}
 use native.Mathlib.Numerals.{add-one}
-use borrow.Author.Tests.{eqb-true, eqb-false, eq-eqb, ne-eqb}
+use borrow.Author.Tests.{eqb-true, eqb-false, ne-eqb}
 use lib.Dec.{eqb}
 use lib.ListN.{length, getD, set, length-set, length-map}
 use lib.Seq.{set-getD, getD-set-same, getD-set-other, ext-getD}
 use Rattle.binar.specs.Bits.{select}
+use Rattle.blocks.proofs.Values.{map-get}
 use Rattle.reduction.specs.Columns.{clear}
 use Rattle.reduction.specs.Sweeps.{sweepIf, swept}
 use Rattle.reduction.proofs.Flat.{others}
@@ -98,11 +99,6 @@ module _ {A : Type 0} (d : A) (add : A → A → A) (t : ℕ → Bool) (p : ℕ)
 
 -- ---- every other row
 
-map-at : {A B : Type 0} (f : A → B) (l : List A) (i : ℕ) (d : A) (e : B) → i < length l → getD (map f l) i e ≡ f (getD l i d)
-map-at f [] i d e h = absurd (not-suc-le-zero h)
-map-at f (x ∷ xs) zero d e h = refl
-map-at f (x ∷ xs) (suc i) d e h = map-at f xs i d e (le-of-suc-le-suc h)
-
 module _ {A : Type 0} (f : A → A) (d : A) where
   others-length : (p : ℕ) (l : List A) → length (others f p l) ≡ length l
   unfolding others
@@ -120,7 +116,7 @@ module _ {A : Type 0} (f : A → A) (d : A) where
   unfolding others
   others-at p i [] h n = absurd (not-suc-le-zero h)
   others-at zero zero (y ∷ ys) h n = absurd (n refl)
-  others-at zero (suc i) (y ∷ ys) h n = map-at f ys i d d (le-of-suc-le-suc h)
+  others-at zero (suc i) (y ∷ ys) h n = map-get f ys i d d (le-of-suc-le-suc h)
   others-at (suc p) zero (y ∷ ys) h n = refl
   others-at (suc p) (suc i) (y ∷ ys) h n = others-at p i ys (le-of-suc-le-suc h) (λ e. n (ap suc e))
 

@@ -16,9 +16,9 @@ use Rattle.linear.proofs.Sums.{add-zero}
 use Rattle.linear.proofs.Instances.{𝕎, Prod}
 use Rattle.symplectic.specs.Picks.{addBoth}
 use Rattle.symplectic.proofs.Lists.{map-eq, zip-map}
-use Rattle.reduction.specs.Columns.{columns, reduced, rank, rowReduceWithTransform}
+use Rattle.reduction.specs.Columns.{columns, reduced, rowReduceWithTransform}
 use Rattle.reduction.proofs.Columns.{rows, Closed, closed-columns, length-columns, mapHalves, columns-map}
-use Rattle.reduction.proofs.Reduced.{reduced-indep, reduced-lt, reduced-zero, reduced-out}
+use Rattle.reduction.proofs.Reduced.{reduced-indep, reduced-zero, reduced-out}
 
 module _ (m : ℕ) (M : List ℕ) where
   start-is : zip M (units (length M)) ≡ map (λ u. (times u M, u)) (units (length M))
@@ -76,10 +76,6 @@ module _ (m : ℕ) (M : List ℕ) where
   pub rest-reduced : map (λ a. a .0) (rowReduceWithTransform m M .down) ≡ reduced m M .down
   rest-reduced = ap (λ h. h .down) rows-reduced
 
-  pub rank-up : length (rowReduceWithTransform m M .up) ≡ rank m M
-  unfolding rank
-  rank-up = sym (length-map (rowReduceWithTransform m M .up) (λ a. a .0)) ∙ ap length basis-reduced
-
   pub transform-length : length (rows (rowReduceWithTransform m M)) ≡ length M
   unfolding rowReduceWithTransform
   transform-length =
@@ -93,11 +89,6 @@ module _ (m : ℕ) (M : List ℕ) where
     -- every row of the matrix is a sum of rows above
     pub up-spans : All (InSpan 𝕎 (map (λ a. a .0) (rowReduceWithTransform m M .up))) M
     up-spans = subst (λ B. All (InSpan 𝕎 B) M) (sym basis-reduced) (reduced-out m M small)
-
-    pub up-lt : All (λ a. a .0 < 2 ^ m) (rowReduceWithTransform m M .up)
-    up-lt =
-        All·of-map (λ a. a .0) (λ v. v < 2 ^ m) (rowReduceWithTransform m M .up)
-        (subst (All (λ v. v < 2 ^ m)) (sym basis-reduced) (All·left (λ v. v < 2 ^ m) (reduced m M .up) (reduced m M .down) (reduced-lt m M small)))
 
     -- the rows below are zero
     pub down-zero : All (λ a. a .0 ≡ 0) (rowReduceWithTransform m M .down)

@@ -1,10 +1,11 @@
 // Reduction by columns: rows with their transform, and the rank; the residue of an action, its basis and core.
+// In the source: transvection_exact.rs, `residue_matrix`, `row_reduce_with_transform`, `residue_core`.
 use binar::Row;
 use blocks::Block;
 use symplectic::Action;
 ghost use mathlib.Core.Path.{_≡_};
 ghost use mathlib.Core.Bool.{true, false, not, _&&_};
-ghost use mathlib.Core.List.{_++_, map, zip};
+ghost use mathlib.Core.List.{List, _++_, map, zip};
 ghost use Prim.Native.Nat.{ℕ, _+_, _≤_, _<_};
 ghost use lib.ListN.{getD, take, drop, length};
 ghost use Rattle.binar.specs.Bits.{bit as bitOf, _⊕_, select};
@@ -13,7 +14,6 @@ ghost use Rattle.blocks.specs.Blocks.{rowsOf};
 ghost use Rattle.blocks.specs.Matrices.{dots as dotsOf};
 ghost use Rattle.symplectic.specs.Actions.{qubits, matrix};
 ghost use Rattle.symplectic.specs.Picks.{addBoth};
-ghost use Rattle.symplectic.specs.Turns.{identityPlus};
 ghost use Rattle.reduction.specs.Columns.{column as columnOf, columns, rank as rankOf, rowReduceWithTransform};
 ghost use Rattle.reduction.specs.Sweeps.{halves, halvesOf, swept as sweptOf};
 ghost use Rattle.reduction.specs.Residue.{residue as residueOf, basis as basisOf, core as coreOf, timesTransposed};
@@ -31,7 +31,7 @@ pub struct ResidueCore {
     pub core: Block,
 }
 
-pub fn first_rows(b: Block, k: usize) -> Block
+fn first_rows(b: Block, k: usize) -> Block
     ensures { λ r. ⌜ rowsOf r ≡ take k (rowsOf b) ⌝ }
 {
     if k < b.count {
@@ -160,37 +160,40 @@ fn dots(v: Row, b: Block) -> Row
 }
 
 // A row has a column for each of the first 64 rows of r: those past them are left out.
-pub fn times_transposed(b: Block, r: Block) -> Block
+fn times_transposed(b: Block, r: Block) -> Block
     ensures { λ e. ⌜ rowsOf e ≡ timesTransposed (rowsOf b) (take width (rowsOf r)) ⌝ }
 {
     let k = blocks::length_of(b);
     let mut n = blocks::empty();
     for i in 0..k {
-        n = blocks::push(n, dots(blocks::get(b, i), r));
+        n.rows[i] = dots(b.rows[i], r);
     }
+    n.count = k;
     n
 }
 
-// Rows j to k of I + F, behind those of b.
-fn with_rows(b: Block, a: Action, j: usize, k: usize) -> Block
-    requires { ⌜ (j ≤ k) × (k ≤ qubits a + qubits a) × (length (rowsOf b) + k ≤ j + 65) ⌝ }
-    ensures { λ r. ⌜ rowsOf r ≡ rowsOf b ++ drop j (take k (identityPlus (qubits a) (matrix a))) ⌝ }
+// Where row i stands once the upper and lower n rows are exchanged.
+fn other_half(i: usize, n: usize) -> usize
+    requires { ⌜ (i < n + n) × (n ≤ 32) ⌝ }
+    ensures { λ r. ⌜ (r < n + n) × ((l : List ℕ) → length l ≡ n + n → getD (drop n l ++ take n l) i 0 ≡ getD l r 0) ⌝ }
 {
-    let mut n = b;
-    for i in j..k {
-        n = blocks::push(n, binar::sum(a.rows[i], binar::unit(i)));
-    }
-    n
+    if i < n { i + n } else { i - n }
 }
 
 // I + F with the upper and lower n rows exchanged.
-pub fn residue(a: Action) -> Block
+fn residue(a: Action) -> Block
     ensures { λ r. ⌜ rowsOf r ≡ residueOf (qubits a) (matrix a) ⌝ }
 {
     let n = symplectic::width(a);
     let m = n + n;
-    let lower = with_rows(blocks::empty(), a, n, m);
-    with_rows(lower, a, 0, n)
+    let mut r = blocks::empty();
+    for i in 0..m {
+        let j = other_half(i, n);
+        let w = binar::sum(a.rows[j], binar::unit(j));
+        r.rows[i] = w;
+    }
+    r.count = m;
+    r
 }
 
 pub fn residue_core(a: Action) -> ResidueCore

@@ -1,3 +1,4 @@
+// Replays the reference answers of its standard input.
 fn main() {
     replays::run();
 }

@@ -1,5 +1,6 @@
 // Replays reference answers: reads records from standard input, makes the call of each, and counts the whole answers that agree.
 // A record is a header of 32 bytes, little-endian, and two runs of words: what is lent, and what is listed. See tools/mkreplay.
+// Not in the source.
 mod tally;
 
 use symplectic::Told;

@@ -6,7 +6,7 @@ use mathlib.Core.Bool.{Bool, true, false}
 use mathlib.Core.List.{List, [], _∷_}
 use mathlib.Core.Option.{Option, none, some}
 use mathlib.Core.Logic.{⊎-elim}
-use Prim.Native.Nat.{ℕ, zero, suc, _+_, _≤_, _<_, zero-le}
+use Prim.Native.Nat.{ℕ, zero, suc, _+_, _≤_, _<_}
 use native.Mathlib.Nat.{le-refl, eq-or-lt-of-le}
 use native.Mathlib.Numerals.{add-one}
 use native.Mathlib.Omega.{arith}
@@ -47,10 +47,6 @@ module _ {A B : Type 0} (t : A → Bool) (g : A → B) where
         (λ m. by-skips s i (omega arith) (omega arith) (λ k j r. f k (omega arith) r) ∙ by-skip i b (f i (le-refl (suc i)) (omega arith)) ∙ ap (λ k. firstBy (drop k l)) (add-one i))
         (eq-or-lt-of-le h)
 
-    pub by-at : (s i : ℕ) → s ≤ i → i < length l → ((k : ℕ) → k < i → s ≤ k → t (getD l k d) ≡ false) → t (getD l i d) ≡ true
-        → firstBy (drop s l) ≡ some (g (getD l i d))
-    by-at s i h b f e = by-skips s i h (omega arith) f ∙ by-here i b e
-
     pub by-none : (s : ℕ) → s ≤ length l → ((k : ℕ) → k < length l → s ≤ k → t (getD l k d) ≡ false) → firstBy (drop s l) ≡ none
     by-none s h f = by-skips s (length l) h (le-refl (length l)) f ∙ by-end (length l) (le-refl (length l))
 
@@ -74,13 +70,6 @@ module _ {A : Type 0} (add : A → A → A) (E : A → A → Bool) where
   module _ (l : List A) (d : A) where
     pub firstOne-skip : (i : ℕ) → i < length l → E (getD l i d) (getD l i d) ≡ false → firstOne add E (drop i l) ≡ firstOne add E (drop (i + 1) l)
     firstOne-skip i h e = one-by (drop i l) ∙ by-skip (λ b. E b b) (λ b. b) l d i h e ∙ sym (one-by (drop (i + 1) l))
-
-    pub firstOne-at : (i : ℕ) → i < length l → ((k : ℕ) → k < i → E (getD l k d) (getD l k d) ≡ false) → E (getD l i d) (getD l i d) ≡ true
-        → firstOne add E l ≡ some (getD l i d)
-    firstOne-at i h f e = one-by l ∙ by-at (λ b. E b b) (λ b. b) l d 0 i zero-le h (λ k m s. f k m) e
-
-    pub firstOne-none : ((k : ℕ) → k < length l → E (getD l k d) (getD l k d) ≡ false) → firstOne add E l ≡ none
-    firstOne-none f = one-by l ∙ by-none (λ b. E b b) (λ b. b) l d 0 zero-le (λ k m s. f k m)
 
     pub firstOne-here : (i : ℕ) → i < length l → E (getD l i d) (getD l i d) ≡ true → firstOne add E (drop i l) ≡ some (getD l i d)
     firstOne-here i h e = one-by (drop i l) ∙ by-here (λ b. E b b) (λ b. b) l d i h e
@@ -125,17 +114,6 @@ module _ {A : Type 0} (add : A → A → A) (E : A → A → Bool) where
         uneven-skips i (omega arith) (λ k m. f k (omega arith))
         ∙ firstUneven-skip i h (with-by (getD l i d) (drop (i + 1) l) ∙ by-none (uneven (getD l i d)) (add (getD l i d)) l d (i + 1) (omega arith) (λ m j s. f i (le-refl (suc i)) m j (omega arith)))
         ∙ ap (λ k. firstUneven add E (drop k l)) (add-one i)
-
-    pub firstUneven-at : (i j : ℕ) → i < j → j < length l → ((k : ℕ) → k < i → Behind k)
-        → ((m : ℕ) → m < j → i < m → uneven (getD l i d) (getD l m d) ≡ false) → uneven (getD l i d) (getD l j d) ≡ true
-        → firstUneven add E l ≡ some (add (getD l i d) (getD l j d))
-    firstUneven-at i j h b f g e =
-        uneven-skips i (omega arith) f
-        ∙ firstUneven-here i (add (getD l i d) (getD l j d)) (omega arith)
-        (with-by (getD l i d) (drop (i + 1) l) ∙ by-at (uneven (getD l i d)) (add (getD l i d)) l d (i + 1) j (omega arith) b (λ m k s. g m k (omega arith)) e)
-
-    pub firstUneven-none : ((k : ℕ) → k < length l → Behind k) → firstUneven add E l ≡ none
-    firstUneven-none f = uneven-skips (length l) (le-refl (length l)) f ∙ firstUneven-end (length l) (le-refl (length l))
 
   -- the choice
   pub pick-of-one : (l : List A) (p : A) → firstOne add E l ≡ some p → pick add E l ≡ some p

@@ -126,9 +126,6 @@ module _ (S : Space) (F : Form S) where
   pub pick-some : (bs : List Car) (p : Car) → pick _⊕_ E bs ≡ some p → (E p p ≡ true) × InSpan S bs p
   pick-some bs p e = rw e at (picked bs)
 
-  pub pick-none : (bs : List Car) → pick _⊕_ E bs ≡ none → Even bs
-  pick-none bs e = rw e at (picked bs)
-
   -- on an alternating space the form is symmetric
   pub even-symmetric : (bs : List Car) → Even bs → (x y : Car) → InSpan S bs x → InSpan S bs y → E x y ≡ E y x
   even-symmetric bs a x y h k = eq-of-sum 𝔹 (E x y) (E y x) (sym (square x y (a x h) (a y k)) ∙ a (x ⊕ y) (span-add S bs x y h k))

@@ -1,17 +1,15 @@
 -- Turns of n qubits are transvections, and the product of a list: its rows are the basis vectors sent through the list, and so is what it makes of a vector.
 -- Assumes nothing.
 use mathlib.Core.Path.{_≡_, refl, sym, ap, ap₂, _∙_, fun-ext}
-use mathlib.Core.Bool.{Bool, true, false}
 use mathlib.Core.List.{List, [], _∷_, _++_, map, map-map, map-id, reverse}
 use Prim.Native.Nat.{ℕ, suc, _+_, _*_, _^_, _<_}
-use lib.Pow.{pow-pos}
 use lib.ListN.{length, take, getD, length-map}
 use lib.Seq.{take-suc}
 use Rattle.binar.specs.Bits.{select, _⊕_}
 use Rattle.binar.proofs.Sums.{sum-lt, sum-self}
 use Rattle.blocks.specs.Matrices.{times, units, All}
 use Rattle.blocks.proofs.All.{All·map, All·to-map}
-use Rattle.blocks.proofs.Products.{times-sum}
+use Rattle.blocks.proofs.Products.{select-lt, times-sum}
 use Rattle.blocks.proofs.Units.{units-length, units-lt, times-units}
 use Rattle.linear.specs.Maps.{Additive}
 use Rattle.linear.proofs.Sums.{swap4, eq-of-sum}
@@ -65,11 +63,7 @@ run-over n (v ∷ vs) h =
 -- rows of m columns stay rows of m columns
 pub turn-lt : (m n v u : ℕ) → v < 2 ^ m → u < 2 ^ m → turn n v u < 2 ^ m
 unfolding turn
-turn-lt m n v u hv hu = sum-lt m u (select 0 (pairing n u v) v) hu (part (pairing n u v))
-  where
-    part : (b : Bool) → select 0 b v < 2 ^ m
-    part true = hv
-    part false = pow-pos m
+turn-lt m n v u hv hu = sum-lt m u (select 0 (pairing n u v) v) hu (select-lt m (pairing n u v) v hv)
 
 pub run-lt : (m n : ℕ) (vs : List ℕ) → All (λ v. v < 2 ^ m) vs → (u : ℕ) → u < 2 ^ m → run n vs u < 2 ^ m
 run-lt m n [] a u h = h

@@ -7,13 +7,13 @@ use Prim.Native.Nat.{ℕ, zero, suc, _+_, _^_, _≤_, _<_}
 use native.Mathlib.Omega.{arith}
 use lib.Dec.{leb, ltb, eqb}
 use lib.ListN.{length}
-use borrow.Author.Tests.{ltb-true, leb-true, eqb-true, lt-ltb, le-leb, lt-leb, eq-eqb, ne-eqb}
+use borrow.Author.Tests.{ltb-true, leb-true, eqb-true, le-leb, lt-leb, eq-eqb, ne-eqb}
 use Rattle.blocks.specs.Matrices.{All}
 use Rattle.blocks.proofs.All.{All·map}
 use Rattle.symplectic.specs.Actions.{maxQubits}
 use Rattle.symplectic.specs.Turns.{symplectic}
 use Rattle.symplectic.specs.Replies.{Reply, refused, ask, andThen, unlessRefused, fitAll, sizeQuestion, countQuestion, actionQuestions, listQuestions}
-use Rattle.symplectic.proofs.Lists.{all-true, true-all}
+use Rattle.symplectic.proofs.Lists.{all-true}
 
 -- ---- one question
 
@@ -25,10 +25,6 @@ ask-passed false k later e = absurd (omega arith)
 pub fit-all : (m : ℕ) (rows : List ℕ) → fitAll m rows ≡ true → All (λ f. f < 2 ^ m) rows
 unfolding fitAll
 fit-all m rows e = All·map (λ v t. ltb-true v (2 ^ m) t) rows (all-true (λ v. ltb v (2 ^ m)) rows e)
-
-pub all-fit : (m : ℕ) (rows : List ℕ) → All (λ f. f < 2 ^ m) rows → fitAll m rows ≡ true
-unfolding fitAll
-all-fit m rows a = true-all (λ v. ltb v (2 ^ m)) rows (All·map (λ v h. lt-ltb v (2 ^ m) h) rows a)
 
 module _ (n later : ℕ) where
   pub size-refused : 32 < n → sizeQuestion n later ≡ 1

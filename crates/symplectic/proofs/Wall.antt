@@ -12,7 +12,7 @@ use Rattle.blocks.specs.Matrices.{All}
 use Rattle.blocks.proofs.All.{All·map, All·map₂, All·of-map, All·to-map, All·any}
 use Rattle.linear.proofs.Exchange.{span-members, span-add, steinitz, steinitz-span, steinitz-indep}
 use Rattle.linear.specs.Span.{InSpan, Indep}
-use Rattle.linear.proofs.Instances.{𝔹}
+use Rattle.linear.proofs.Instances.{𝔹, scale-true}
 use Rattle.linear.specs.Maps.{Additive, Pairing}
 use Rattle.linear.specs.Triangular.{Tri, Good}
 use Rattle.binar.proofs.Sums.{bxor-comm}
@@ -39,10 +39,6 @@ kept S ω N x y =
     ∙ ap (λ t. (ω .at x y ⊻ ω .at x (N .of y)) ⊻ (ω .at (N .of x) y ⊻ t)) (N .pairs x y)
     ∙ ap (λ t. (ω .at x y ⊻ ω .at x (N .of y)) ⊻ t) (self-left 𝔹 (ω .at (N .of x) y) (ω .at x (N .of y)))
     ∙ cancel-right 𝔹 (ω .at x y) (ω .at x (N .of y))
-
-scale-true : (c : Bool) → scale 𝔹 c true ≡ c
-scale-true true = refl
-scale-true false = refl
 
 -- the product of the turns of a triangular list, where the pairing of the images is the form and its opposite together
 module _ (S : Space) (ω : Pairing S) (Q : Space) (f : Q .Car → S .Car) (f-add : Additive Q S f) (K : Q .Car → Q .Car → Bool)
@@ -187,9 +183,6 @@ module _ (S : Space) (ω : Pairing S) (N : Residue S ω) (P : Space) (ψ : P .Ca
 
   pub core-right : (p : P .Car) → Additive P 𝔹 (core p)
   core-right p x y = ap (ω .at (φ p)) (ψ-add x y) ∙ ω .right (φ p) (ψ x) (ψ y)
-
-  pub core-left : (q : P .Car) → Additive P 𝔹 (λ p. core p q)
-  core-left q x y = ap (λ t. ω .at t (ψ q)) (φ-add x y) ∙ pairing-left S ω (ψ q) (φ x) (φ y)
 
   pub indep-of-core : (ps : List (P .Car)) → Tri core ps → Indep S (map φ ps)
   indep-of-core [] t = tt

@@ -1,7 +1,8 @@
 // Actions on qubits: the pairing, turns, products, the symplectic test, and the questions that calls share.
+// In the source: transvection_exact.rs, `action_matrix`, `transvection_matrix`, `symplectic_dual`, `right_multiply_transvection`; the questions are added.
 use binar::Row;
 ghost use mathlib.Core.Path.{_≡_};
-ghost use Prim.Native.Nat.{_+_, _<_, _≤_, min};
+ghost use Prim.Native.Nat.{_+_, _<_, _≤_};
 ghost use Rattle.binar.specs.Bits.{_⊕_, select, dot};
 ghost use Rattle.binar.specs.Rows.{val};
 ghost use Rattle.blocks.specs.Matrices.{units};
@@ -42,12 +43,6 @@ pub fn telling(number: u64, count: u64, looks: u64) -> Told
         count: count,
         looks: looks,
     }
-}
-
-fn lesser(m: usize, n: usize) -> usize
-    ensures { λ r. ⌜ r ≡ min m n ⌝ }
-{
-    if m < n { m } else { n }
 }
 
 // The qubits of an action: n, and 32 where n is above that.
@@ -130,7 +125,7 @@ pub fn load(n: u64, words: &[u64]) -> Action
         n: n,
         rows: [z; 64],
     };
-    let count = lesser(words.len(), 64);
+    let count = blocks::lesser(words.len(), 64);
     for i in 0..count {
         let v = binar::of_word(words[i]);
         a.rows[i] = v;
@@ -138,22 +133,15 @@ pub fn load(n: u64, words: &[u64]) -> Action
     a
 }
 
-// The word that a row takes.
-fn word(a: Row) -> u64
-    ensures { λ r. ⌜ r ≡ val a ⌝ }
-{
-    binar::word_of(a)
-}
-
 // The action's rows laid into lent words.
 pub fn store(a: Action, out: &mut [u64])
     ensures { λ _. ⌜ now (out .exit) ≡ laid (matrix a) (now (out .entry)) ⌝ }
 {
     let n = width(a);
-    let count = lesser(n + n, out.len());
+    let count = blocks::lesser(n + n, out.len());
     for i in 0..count {
         let u = a.rows[i];
-        out[i] = word(u);
+        out[i] = blocks::word(u);
     }
 }
 
@@ -176,7 +164,7 @@ fn pairs_as_basis(a: Action, i: usize) -> bool
     true
 }
 
-pub fn is_symplectic(a: Action) -> bool
+fn is_symplectic(a: Action) -> bool
     ensures { λ r. ⌜ r ≡ symplectic (qubits a) (matrix a) ⌝ }
 {
     let n = width(a);

@@ -155,9 +155,6 @@ module _ (n : ℕ) (F : List ℕ) (a : Action n F) where
       let l : length vs + length rest ≡ length (recorded n (4 * n + 2) F) = sym (length-append vs rest) ∙ ap length e in
       omega arith
 
-  pub recorded-stops : (steps : ℕ) → 4 * n ≤ steps → nextTransvection n (followedBy n F (recorded n steps F)) ≡ none
-  recorded-stops steps l = ap (nextTransvection n) (recorded-undoes steps l .0) ∙ units-taken n
-
   pub greedy-product : product n (greedyList n F) ≡ F
   unfolding greedyList
   greedy-product = product-reverse n F (recorded n (4 * n + 2) F) (recorded-undoes (4 * n + 2) enough .0)

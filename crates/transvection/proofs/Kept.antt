@@ -1,25 +1,20 @@
 -- The turns that a record of the code holds: one turn more, how many there are, and the turns read from the last to the first.
 -- Assumes nothing.
-use mathlib.Core.Path.{_≡_, sym, ap, ap₂, _∙_}
-use mathlib.Core.List.{List, [], _∷_, _++_, reverse, reverse-cons}
+use mathlib.Core.Path.{_≡_, sym, ap, _∙_}
+use mathlib.Core.List.{List, [], _∷_, reverse, reverse-cons}
 use mathlib.Core.Logic.{⊎-elim}
-use Prim.Native.Nat.{ℕ, suc, _+_, _-_, _≤_, _<_}
+use Prim.Native.Nat.{ℕ, suc, _-_, _≤_, _<_}
 use native.Mathlib.Nat.{not-suc-le-zero, le-of-suc-le-suc, eq-or-lt-of-le}
-use native.Mathlib.Numerals.{add-one}
 use native.Mathlib.Omega.{arith}
-use lib.ListN.{length, getD, set, take, length-reverse, List·getD-append}
-use lib.Seq.{take-suc-set, getD-take, getD-at, length-take-le}
-use Rattle.binar.specs.declared.Row.{Row}
+use lib.ListN.{length, getD, length-reverse, List·getD-append}
+use lib.Seq.{getD-take, getD-at, length-take-le}
 use Rattle.binar.specs.Rows.{val, blank}
 use Rattle.blocks.specs.Blocks.{vals}
-use Rattle.blocks.proofs.Values.{vals-get, vals-set, vals-length}
+use Rattle.blocks.proofs.Values.{vals-get, vals-length}
 use Rattle.transvection.specs.declared.Record.{Record}
 use Rattle.transvection.specs.Answers.{turns}
 
 -- the turn after the first i
-pub keep-more : (rows : List Row) (i : ℕ) (v : Row) → i < length rows → take (i + 1) (vals (set rows i v)) ≡ take i (vals rows) ++ (val v ∷ [])
-keep-more rows i v h = ap₂ take (add-one i) (vals-set rows i v) ∙ take-suc-set (vals rows) i (val v) (omega (arith, vals-length rows))
-
 pub reverse-at : (l : List ℕ) (i : ℕ) → i < length l → getD (reverse l) i 0 ≡ getD l (length l - 1 - i) 0
 reverse-at [] i h = absurd (not-suc-le-zero h)
 reverse-at (x ∷ l) i h =

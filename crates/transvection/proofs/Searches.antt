@@ -10,7 +10,7 @@ use lib.ListN.{length, getD, drop}
 use Rattle.binar.specs.Bits.{_⊕_}
 use Rattle.binar.specs.Rows.{val}
 use Rattle.symplectic.specs.Turns.{identityPlus}
-use Rattle.symplectic.specs.Picks.{orIf, orElse, mapSome, firstOne, unevenWith, firstUneven, pick, addBoth}
+use Rattle.symplectic.specs.Picks.{when, orElse, mapSome, firstOne, unevenWith, firstUneven, pick, addBoth}
 use Rattle.symplectic.proofs.FirstPicks.{firstOne-skip, firstOne-here, firstOne-end, unevenWith-skip, unevenWith-here, unevenWith-end, firstUneven-open, firstUneven-end}
 use Rattle.transvection.specs.declared.Next.{Next}
 use Rattle.transvection.specs.Greedy.{besideBasis, rowPairing, firstNonzero, nextTransvection}
@@ -21,11 +21,11 @@ use Rattle.transvection.proofs.Choices.{rowAt, meets, differs, in-pairs
 
 pub chosen-not : (r : Next) → r .found ≡ false → chosen r ≡ none
 unfolding chosen
-chosen-not r e = ap (λ b. orIf b (val (r .vector)) none) e
+chosen-not r e = ap (λ b. when b (val (r .vector))) e
 
 pub chosen-some : (r : Next) → r .found ≡ true → chosen r ≡ some (val (r .vector))
 unfolding chosen
-chosen-some r e = ap (λ b. orIf b (val (r .vector)) none) e
+chosen-some r e = ap (λ b. when b (val (r .vector))) e
 
 -- the second of two choices, and the first
 pub else-not : (r : Next) (p q : Option ℕ) → r .found ≡ false → chosen r ≡ p → orElse p q ≡ q

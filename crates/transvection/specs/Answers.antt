@@ -1,12 +1,12 @@
 -- What the values of the code mean: what a search finds, the turns of a record, and the answer of the call.
 -- Assumes nothing.
 use mathlib.Core.List.{List}
-use mathlib.Core.Option.{Option, none}
+use mathlib.Core.Option.{Option}
 use Prim.Native.Nat.{ℕ}
 use lib.ListN.{getD, take, drop}
 use Rattle.binar.specs.Rows.{val}
 use Rattle.blocks.specs.Blocks.{vals}
-use Rattle.symplectic.specs.Picks.{orIf, mapSome, firstOne, unevenWith, firstUneven, addBoth}
+use Rattle.symplectic.specs.Picks.{when, mapSome, firstOne, unevenWith, firstUneven, addBoth}
 use Rattle.symplectic.specs.declared.Told.{Told}
 use Rattle.transvection.specs.declared.Next.{Next}
 use Rattle.transvection.specs.declared.Record.{Record}
@@ -17,7 +17,7 @@ use Rattle.transvection.specs.Greedy.{besideBasis, rowPairing}
 -- ---- searches and records
 
 unfoldable pub chosen : Next → Option ℕ
-chosen r = orIf (r .found) (val (r .vector)) none
+chosen r = when (r .found) (val (r .vector))
 
 unfoldable pub turns : Record → List ℕ
 turns r = take (r .count) (vals (r .rows))

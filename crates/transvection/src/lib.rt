@@ -1,4 +1,5 @@
 // The greedy list: turns that undo an action, each found in the matrix I + F, laid in reverse into lent words.
+// In the source: transvection.rs, `clifford_to_transvections`, `symplectic_residue_matrix`, `next_transvection`.
 use binar::Row;
 use symplectic::Action;
 use symplectic::Question;
@@ -177,13 +178,6 @@ fn record_turns(a: Action) -> Record
     kept
 }
 
-// The word that a row takes.
-fn word(a: Row) -> u64
-    ensures { λ r. ⌜ r ≡ val a ⌝ }
-{
-    binar::word_of(a)
-}
-
 // The record laid into lent words, its last turn first.
 fn store_reversed(kept: Record, out: &mut [u64])
     requires { ⌜ (kept .count ≤ 130) × (kept .count ≤ length (now out)) ⌝ }
@@ -192,7 +186,7 @@ fn store_reversed(kept: Record, out: &mut [u64])
     let count = kept.count;
     for k in 0..count {
         let u = kept.rows[count - 1 - k];
-        out[k] = word(u);
+        out[k] = blocks::word(u);
     }
 }
 

@@ -102,18 +102,6 @@ module _ (n : ℕ) (F : List ℕ) (asked budget looks : ℕ) (out : List ℕ) (r
   of-spent (unbordered a s b e) z l = absurd (omega arith)
   of-spent (answered vs a s m h e) z l = absurd (omega arith)
 
-  pub unbordered-of : Ends n F asked budget looks out r → r .number ≡ 7 → (asked ≡ 0) × (looks ≤ budget) × (borderedList n F ≡ none) × (r .looks ≡ looks)
-  unbordered-of (early k a s e) z = absurd (omega (arith, is-number (suc k) 7 0 e z))
-  unbordered-of (beyond a s e) z = absurd (omega (arith, is-number 6 7 budget e z))
-  unbordered-of (unbordered a s b e) z = (a, s, b, refusal-looks 7 looks e)
-  unbordered-of (answered vs a s l h e) z = absurd (omega (arith, is-listed vs 7 e z))
-
-  pub early-of : Ends n F asked budget looks out r → 0 < r .number → r .number < 6 → (r .number ≡ asked) × (r .looks ≡ 0)
-  early-of (early k a s e) z l = (sym (is-number (suc k) (r .number) 0 e refl) ∙ sym a, refusal-looks (suc k) 0 e)
-  early-of (beyond a s e) z l = absurd (omega (arith, is-number 6 (r .number) budget e refl))
-  early-of (unbordered a s b e) z l = absurd (omega (arith, is-number 7 (r .number) looks e refl))
-  early-of (answered vs a s m h e) z l = absurd (omega (arith, is-listed vs (r .number) e refl))
-
   pub small-of : Ends n F asked budget looks out r → r .number ≤ 7
   small-of (early k a s e) = omega (arith, is-number (suc k) (r .number) 0 e refl)
   small-of (beyond a s e) = omega (arith, is-number 6 (r .number) budget e refl)

@@ -1,37 +1,30 @@
 -- What the search of a core and the bordered list have come to, as the replies of questions 6 and 7.
 -- Assumes nothing.
-use mathlib.Core.Path.{_≡_, sym, ap, ap₂, _∙_}
+use mathlib.Core.Path.{_≡_, sym, ap, _∙_}
 use mathlib.Core.Bool.{true, false}
 use mathlib.Core.List.{List}
 use mathlib.Core.Option.{Option}
 use Prim.Native.Nat.{ℕ, _+_, _≤_}
-use native.Mathlib.Omega.{arith}
 use lib.ListN.{length}
 use Rattle.blocks.specs.declared.Block.{Block}
 use Rattle.blocks.specs.Blocks.{rowsOf}
 use Rattle.blocks.specs.Matrices.{units, matmul}
 use Rattle.symplectic.specs.Replies.{Reply, refused, listed}
-use Rattle.reduction.specs.Residue.{basis, core, residue, form}
-use Rattle.reduction.proofs.Core.{core-length, basis-rank, residue-length}
-use Rattle.reduction.proofs.Parts.{fits-all}
-use Rattle.reduction.proofs.Reduced.{rank-length}
+use Rattle.symplectic.specs.Picks.{when}
+use Rattle.reduction.specs.Residue.{basis, core, form}
+use Rattle.reduction.proofs.Core.{core-length}
 use Rattle.triangular.specs.declared.Searched.{Searched}
 use Rattle.triangular.specs.declared.Ending.the-variants.{Found, Failed, Spent}
 use Rattle.triangular.specs.Search.{found, failed, search, Verdict, ended, spent, budgeted}
 use Rattle.triangular.specs.Readings.{coreOf, seen}
 use Rattle.triangular.proofs.Budgets.{says-found, says-failed, says-spent}
 use Rattle.bordered.specs.declared.Bordered.{Bordered}
-use Rattle.bordered.specs.Checks.{borderedList, passing}
+use Rattle.bordered.specs.Checks.{borderedList}
 use Rattle.bordered.specs.Readings.{listedOf}
+use Rattle.bordered.proofs.Listed.{core-fits}
 use Rattle.transvection_exact.specs.Minimal.{coreSearch, borderedReply, searchedReply}
 
 module _ (n : ℕ) (F : List ℕ) (size : length F ≡ n + n) (small : n ≤ 32) (budget : ℕ) (out : List ℕ) where
-  -- the core has no more rows than a row has columns
-  core-is : (c : Block) → rowsOf c ≡ core n F → coreOf c ≡ core n F
-  unfolding coreOf
-  core-is c e =
-      fits-all (rowsOf c) (omega (arith, ap length e, core-length n F, basis-rank n F, rank-length (n + n) (residue n F), residue-length n F size)) ∙ e
-
   abbrev reply : Reply
   reply = searchedReply n F (budgeted budget (coreSearch n F)) out
 
@@ -41,7 +34,7 @@ module _ (n : ℕ) (F : List ℕ) (size : length F ≡ n + n) (small : n ≤ 32)
     verdict : seen o ≡ budgeted budget (coreSearch n F)
     unfolding coreSearch
     verdict =
-        ens ∙ ap (λ (E : List ℕ). budgeted budget (search (form E) (length E) (units (length E)) 0)) (core-is c is)
+        ens ∙ ap (λ (E : List ℕ). budgeted budget (search (form E) (length E) (units (length E)) 0)) (core-fits n F size small c is)
         ∙ ap (λ (r : ℕ). budgeted budget (search (form (core n F)) r (units r) 0)) (core-length n F)
 
     by-verdict : (v : Verdict) → seen o ≡ v → reply ≡ searchedReply n F v out
@@ -68,8 +61,8 @@ module _ (n : ℕ) (F : List ℕ) (size : length F ≡ n + n) (small : n ≤ 32)
 
       pub searched-unbordered : b .passed ≡ false → searchedReply n F (budgeted budget (coreSearch n F)) out ≡ refused 7 (o .looks) out
       unfolding listedOf
-      searched-unbordered e = bordered-by _ (ap (λ t. passing t (rowsOf (b .list))) e)
+      searched-unbordered e = bordered-by _ (ap (λ t. when t (rowsOf (b .list))) e)
 
       pub searched-bordered : b .passed ≡ true → searchedReply n F (budgeted budget (coreSearch n F)) out ≡ listed (rowsOf (b .list)) (o .looks) out
       unfolding listedOf
-      searched-bordered e = bordered-by _ (ap (λ t. passing t (rowsOf (b .list))) e)
+      searched-bordered e = bordered-by _ (ap (λ t. when t (rowsOf (b .list))) e)

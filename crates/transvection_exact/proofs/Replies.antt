@@ -22,7 +22,7 @@ use Rattle.bordered.proofs.Verified.{Passed, bordered-passed}
 use Rattle.transvection_exact.specs.Shortest.{NoneShorter}
 use Rattle.transvection_exact.specs.Minimal.{coreSearch, borderedReply, endedReply, searchedReply, minimalReply}
 use Rattle.transvection_exact.proofs.Least.{Least, least-of-search, found-shortest, bordered-shortest}
-use Rattle.transvection_exact.proofs.Ends.{Ends, early, beyond, unbordered, answered, Answer, answer, count-is, looks-are, taken-is, rest-is, left-of, spent-of, of-spent, unbordered-of, early-of, small-of}
+use Rattle.transvection_exact.proofs.Ends.{Ends, early, beyond, unbordered, answered, Answer, answer, count-is, looks-are, taken-is, rest-is, left-of, spent-of, of-spent, small-of}
 
 -- ---- the questions before the search have numbers up to 5
 
@@ -114,18 +114,12 @@ module _ (n : ℕ) (words : List ℕ) (budget : ℕ) (out : List ℕ) where
     pub answered-fits : All (λ v. v < 2 ^ (n + n)) (take (reply .count) (rowsOfWords (reply .words)))
     answered-fits = subst (All (λ v. v < 2 ^ (n + n))) (sym is-the-list) (the .shortest .fits)
 
-    pub answered-room : (reply .count ≤ n + n + 1) × (n + n + 1 ≤ length out)
-    answered-room = (subst (λ k. k ≤ n + n + 1) (sym count-the) (the .shortest .room), the .lent)
-
     -- the words past the list
     pub answered-rest : drop (reply .count) (reply .words) ≡ drop (reply .count) out
     answered-rest = rest-is n rows asked budget wanted out reply the
 
     pub answered-looks : reply .looks ≡ wanted
     answered-looks = looks-are n rows asked budget wanted out reply the
-
-    pub answered-within : (asked ≡ 0) × (wanted ≤ budget)
-    answered-within = (the .passed, the .ended)
 
   pub refused-left : (reply .number ≡ 0 → ⊥) → (reply .words ≡ out) × (reply .count ≡ 0)
   refused-left = left-of n rows asked budget wanted out reply minimal-ends
@@ -139,18 +133,6 @@ module _ (n : ℕ) (words : List ℕ) (budget : ℕ) (out : List ℕ) where
 
   pub spent-looks : reply .number ≡ 6 → reply .looks ≡ budget
   spent-looks z = spent-of n rows asked budget wanted out reply minimal-ends z .2
-
-  pub unbordered-only : reply .number ≡ 7 → (asked ≡ 0) × (wanted ≤ budget) × (borderedList n rows ≡ none)
-  unbordered-only z = let s = unbordered-of n rows asked budget wanted out reply minimal-ends z in (s .0, s .1, s .2)
-
-  pub unbordered-looks : reply .number ≡ 7 → reply .looks ≡ wanted
-  unbordered-looks z = unbordered-of n rows asked budget wanted out reply minimal-ends z .3
-
-  pub early-number : 0 < reply .number → reply .number < 6 → reply .number ≡ asked
-  early-number g l = early-of n rows asked budget wanted out reply minimal-ends g l .0
-
-  pub early-looks : 0 < reply .number → reply .number < 6 → reply .looks ≡ 0
-  early-looks g l = early-of n rows asked budget wanted out reply minimal-ends g l .1
 
   -- there is no other number
   pub number-small : reply .number ≤ 7

@@ -1,4 +1,5 @@
 // The minimal list: as few turns as any list of the action has, laid into lent words.
+// In the source: transvection_exact.rs, `minimal_decomposition`, `clifford_to_transvections_minimal`.
 use blocks::Block;
 use symplectic::Action;
 use symplectic::Question;

@@ -3,7 +3,7 @@
 use mathlib.Core.Path.{_≡_, refl, sym, ap, ap₂, _∙_, subst}
 use mathlib.Core.Bool.{Bool, true, false, true≢false}
 use mathlib.Core.List.{List, [], _∷_, _++_, map}
-use Prim.Native.Nat.{ℕ, zero, suc, _^_, _<_, zero-le, suc-le-suc}
+use Prim.Native.Nat.{ℕ, zero, suc, _<_, zero-le, suc-le-suc}
 use native.Mathlib.Nat.{not-suc-le-zero, zero-lt-suc}
 use lib.ListN.{length, length-map, take, drop, getD}
 use Rattle.binar.specs.Bits.{_⊻_, select, _⊕_}
@@ -16,9 +16,8 @@ use Rattle.linear.specs.Span.{InSpan, Indep}
 use Rattle.linear.specs.Maps.{Additive}
 use Rattle.linear.proofs.Sums.{add-zero, cancel-right, swap4, scale-xor, scale-o}
 use Rattle.linear.proofs.Exchange.{span-add, span-scale, span-skip, span-head, span-members, steinitz-indep}
-use Rattle.linear.proofs.Instances.{𝔹, 𝕎}
+use Rattle.linear.proofs.Instances.{𝔹, 𝕎, scale-true}
 use Rattle.linear.proofs.Maps.{map-o, map-at, span-map}
-use Rattle.linear.proofs.Rows.{span-lt}
 use Rattle.triangular.specs.Spaces.{dropOrKeep, complement}
 
 -- ---- by an additive test
@@ -27,10 +26,6 @@ module _ (f : ℕ → Bool) (f-add : Additive 𝕎 𝔹 f) where
   -- y with m added where the test passes
   abbrev past : ℕ → ℕ → ℕ
   past m y = y ⊕ select 0 (f y) m
-
-  scale-true : (c : Bool) → scale 𝔹 c true ≡ c
-  scale-true true = refl
-  scale-true false = refl
 
   at-plus-one : (x : ℕ) (c : Bool) (m : ℕ) → f m ≡ true → f (x ⊕ select 0 c m) ≡ f x ⊻ c
   at-plus-one x c m e = map-at 𝕎 𝔹 f f-add x c m ∙ ap (λ t. f x ⊻ t) (ap (scale 𝔹 c) e ∙ scale-true c)
@@ -89,9 +84,6 @@ module _ (f : ℕ → Bool) (f-add : Additive 𝕎 𝔹 f) where
         complement-out bs (b ⊕ select 0 (f b) x) (at-plus-one b (f b) x e ∙ bxor-self (f b))
             (span-add 𝕎 bs b (select 0 (f b) x) k (span-scale 𝕎 bs (f b) x h)),
       )
-
-  pub complement-lt : (m : ℕ) (bs : List ℕ) → All (λ v. v < 2 ^ m) bs → All (λ v. v < 2 ^ m) (complement f bs)
-  complement-lt m bs a = All·map (λ y h. span-lt m bs a y (h .0)) (complement f bs) (complement-in bs)
 
 -- ---- by the first index
 

@@ -1,31 +1,22 @@
--- Rows copied one by one: from a block into an array, and into another block from the last to the first.
+-- Rows written one by one: unit rows into an array, and rows into a block from the last to the first.
 -- Assumes nothing.
 use mathlib.Core.Path.{_≡_, sym, ap, ap₂, _∙_}
 use mathlib.Core.List.{List, [], _∷_, _++_, reverse, reverse-cons}
 use Prim.Native.Nat.{ℕ, suc, _+_, _-_, _^_, _≤_, _<_}
-use native.Mathlib.Numerals.{add-one}
 use native.Mathlib.Omega.{arith}
 use lib.ListN.{length, length-reverse, length-drop, getD, set, take, drop, drop-of-length-le}
-use lib.Seq.{take-suc, take-suc-set, drop-cons}
+use lib.Seq.{drop-cons}
 use Rattle.binar.specs.declared.Row.{Row}
 use Rattle.binar.specs.Rows.{val}
 use Rattle.blocks.specs.Blocks.{room, vals}
 use Rattle.blocks.specs.Matrices.{units}
 use Rattle.blocks.proofs.Units.{units-snoc}
-use Rattle.blocks.proofs.Values.{vals-set, vals-length, push-fits}
+use Rattle.blocks.proofs.Values.{taken-next, push-fits}
 
 -- ---- into an array
 
-taken-next : (l : List Row) (i : ℕ) (v : Row) → i < length l → take (i + 1) (vals (set l i v)) ≡ take i (vals l) ++ (val v ∷ [])
-taken-next l i v h = ap₂ take (add-one i) (vals-set l i v) ∙ take-suc-set (vals l) i (val v) (rw vals-length h)
-
 pub units-next : (l : List Row) (i : ℕ) (v : Row) → i < length l → val v ≡ 2 ^ i → take i (vals l) ≡ units i → take (i + 1) (vals (set l i v)) ≡ units (i + 1)
 units-next l i v h e inv = taken-next l i v h ∙ ap₂ (λ m x. m ++ (x ∷ [])) inv e ∙ sym (units-snoc i)
-
-pub copied-next : (l : List Row) (M : List ℕ) (i : ℕ) (v : Row) → i < length l → i < length M → val v ≡ getD M i 0
-    → take i (vals l) ≡ take i M → take (i + 1) (vals (set l i v)) ≡ take (i + 1) M
-copied-next l M i v h k e inv =
-    taken-next l i v h ∙ ap₂ (λ m x. m ++ (x ∷ [])) inv e ∙ sym (ap (λ n. take n M) (add-one i) ∙ take-suc M i 0 k)
 
 -- ---- from the last to the first
 

@@ -7,4 +7,3 @@ pub mod Cores
 pub mod Drawing
 pub mod Dropping
 pub mod Copies
-pub mod Answers

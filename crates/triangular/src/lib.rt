@@ -1,4 +1,5 @@
 // The search for a basis that makes the core triangular, draw by draw under a budget.
+// In the source: transvection_exact.rs, `is_alternating`, `SpanVectors`, `right_orthogonal_complement`, `triangularize_subspace`, `congruence_triangularize`.
 use binar::Row;
 use blocks::Block;
 ghost use mathlib.Core.Path.{_≡_};

@@ -1,4 +1,5 @@
 // Reads a job file from standard input and writes its printout: the lines of the library, in order.
+// Not in the source.
 use job::FileAnswer;
 use libc::STDIN_FILENO;
 use libc::STDOUT_FILENO;

@@ -1,11 +1,9 @@
 -- `search_core` answers the looks of the search, by `seen-looks`.
 -- Assumes nothing.
-use mathlib.Core.Path.{ap, ap₂, _∙_}
+use mathlib.Core.Path.{ap, _∙_}
 use lib.ListN.{take}
 use Rattle.binar.specs.Rows.{width}
-use Rattle.reduction.specs.Residue.{core as coreOf}
 use Rattle.bench_search.proofs.Seen.{seen-looks, width-room}
-use native.Mathlib.Omega.{arith}
 use borrow.Author.Needs.{needs}
 use Rattle.bench_search.proofs.search_core.Statement.{statement}
 use Rattle.bench_search.proofs.search_core.Tie as tie

@@ -1,14 +1,13 @@
--- `identity` pushes the unit rows one by one, by `units-snoc`.
+-- `identity` writes the unit rows one by one, by `units-at`.
 -- Assumes nothing.
-use mathlib.Core.Path.{_≡_, sym, ap, ap₂, _∙_}
-use mathlib.Core.List.{List, [], _∷_, _++_}
-use Prim.Native.Nat.{ℕ, _-_, _^_, _≤_, _<_, min}
-use lib.ListN.{take}
+use mathlib.Core.Path.{_≡_, refl, sym, ap, _∙_}
+use Prim.Native.Nat.{_-_, _≤_, _<_}
+use lib.ListN.{length, take, length-set}
 use native.Mathlib.Omega.{arith}
 use Rattle.binar.proofs.Ones.{unit-is}
-use Rattle.blocks.proofs.Units.{units-length, units-snoc}
-use Rattle.blocks.proofs.Values.{push-fits}
-use Rattle.blocks.specs.Blocks.{room, rowsOf}
+use Rattle.blocks.proofs.Units.{units-length, units-at}
+use Rattle.blocks.proofs.Values.{write-next, write-end, unmapped}
+use Rattle.blocks.specs.Blocks.{vals, rowsOf}
 use Rattle.binar.specs.Rows.{width}
 use Rattle.blocks.specs.Matrices.{units}
 use borrow.Author.Needs.{needs}
@@ -16,7 +15,7 @@ use Rattle.blocks.proofs.identity.Statement.{statement}
 use Rattle.blocks.proofs.identity.Tie as tie
 
 abbrev Inv-loop : tie.InvT-loop
-Inv-loop m k n₀ i₀ n i = (i ≤ k) × (rowsOf n ≡ units i)
+Inv-loop m k n₀ i₀ n i = (i ≤ k) × (k ≤ 64) × (length (n .rows) ≡ 65) × (take i (vals (n .rows)) ≡ take i (units k))
 
 abbrev μ-loop : tie.MeasureT-loop
 μ-loop m k n₀ i₀ n i = k - i
@@ -28,14 +27,16 @@ empty-requires : tie.Need-empty-requires Inv-loop μ-loop
 empty-requires c κs = search needs
 
 loop-holds : tie.Need-loop-holds Inv-loop μ-loop
-unfolding units
-loop-holds c = (search needs, c .empty .ensures)
+loop-holds c = (search needs, omega (arith, c .before .lesser .ensures), search (needs, unmapped), refl)
 
 unit-requires : tie.Need-unit-requires Inv-loop μ-loop
 unit-requires c κs = search needs
 
-push-requires : tie.Need-push-requires Inv-loop μ-loop
-push-requires c κs = search needs
+mul-t8 : tie.Need-mul-t8 Inv-loop μ-loop
+mul-t8 c = search needs
+
+element-set-from-n : tie.Need-element-set-from-n Inv-loop μ-loop
+element-set-from-n c = search needs
 
 add-i : tie.Need-add-i Inv-loop μ-loop
 add-i c = search needs
@@ -46,18 +47,22 @@ loop-less c = search needs
 loop-again : tie.Need-loop-again Inv-loop μ-loop
 unfolding width
 loop-again c =
-    let at = c .before .before .before .loop in
-    let h : at .i < 64 = omega (arith, c .before .before .before .before .before .lesser .ensures) in (
+    let at = c .before .before .loop in
+    let k = c .before .before .before .before .lesser .result in
+    let h : at .i < k = omega arith in (
       search needs,
-      c .push .ensures ∙ ap₂ (λ (l : List ℕ) (v : ℕ). take room (l ++ (v ∷ []))) (at .inv .1) (c .before .unit .ensures ∙ unit-is (at .i) h)
-          ∙ push-fits (units (at .i)) (2 ^ at .i) (omega (arith, units-length (at .i))) ∙ sym (units-snoc (at .i)),
+      at .inv .1,
+      simp length-set (at .inv .2),
+      write-next (units k) (at .n .rows) (at .i) (c .unit .result) (omega (arith, units-length k)) (omega (arith, at .inv .2)) (at .inv .3)
+          (c .unit .ensures ∙ unit-is (at .i) (omega arith) ∙ sym (units-at (at .i) k h)),
     )
 
 returns : tie.Need-returns Inv-loop μ-loop
-unfolding width
+unfolding rowsOf width
 returns c =
-    let e : c .before .loop .i ≡ min (c .before .before .before .before .args .m) 64 = omega (arith, c .before .before .before .lesser .ensures) in
-    c .before .loop .inv .1 ∙ ap units e
+    let at = c .before .loop in
+    let k = c .before .before .before .lesser in
+    write-end (units (k .result)) (at .n .rows) (at .i) (k .result) (omega arith) (sym (units-length (k .result))) (at .inv .3) ∙ ap units (k .ensures)
 
 pub identity-spec : {M : Type 1} → statement M
 identity-spec =
@@ -69,7 +74,8 @@ identity-spec =
     empty-requires
     loop-holds
     unit-requires
-    push-requires
+    mul-t8
+    element-set-from-n
     add-i
     loop-less
     loop-again

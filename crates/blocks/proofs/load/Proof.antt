@@ -1,21 +1,19 @@
--- `load` pushes the words one by one: the rows are the words so far, by `push-fits`.
+-- `load` writes the words one by one.
 -- Assumes nothing.
-use native.Mathlib.Numerals.{add-one}
-use lib.Seq.{take-suc}
-use mathlib.Core.Path.{_≡_, sym, ap, ap₂, _∙_}
-use mathlib.Core.List.{List, [], _∷_, _++_}
-use Prim.Native.Nat.{ℕ, _-_, _≤_, _<_}
-use lib.ListN.{length, getD, take, length-take}
+use mathlib.Core.Path.{_≡_, refl, sym, _∙_}
+use Prim.Native.Nat.{_-_, _≤_, _<_}
+use lib.ListN.{length, take, length-set, length-take}
+use lib.Seq.{getD-take}
 use native.Mathlib.Omega.{arith}
 use Rattle.blocks.specs.Words.{rowsOfWords}
-use Rattle.blocks.specs.Blocks.{room, rowsOf}
-use Rattle.blocks.proofs.Values.{push-fits, take-counted}
+use Rattle.blocks.specs.Blocks.{room, vals, rowsOf}
+use Rattle.blocks.proofs.Values.{write-next, write-end, unmapped}
 use borrow.Author.Needs.{needs}
 use Rattle.blocks.proofs.load.Statement.{statement}
 use Rattle.blocks.proofs.load.Tie as tie
 
 abbrev Inv-loop : tie.InvT-loop
-Inv-loop words k n₀ i₀ n i = (i ≤ k) × (rowsOf n ≡ take i words)
+Inv-loop words k n₀ i₀ n i = (i ≤ k) × (length (n .rows) ≡ 65) × (take i (vals (n .rows)) ≡ take i (take 65 words))
 
 abbrev μ-loop : tie.MeasureT-loop
 μ-loop words k n₀ i₀ n i = k - i
@@ -27,7 +25,7 @@ empty-requires : tie.Need-empty-requires Inv-loop μ-loop
 empty-requires c κs = search needs
 
 loop-holds : tie.Need-loop-holds Inv-loop μ-loop
-loop-holds c = (search needs, c .empty .ensures)
+loop-holds c = (search needs, search (needs, unmapped), refl)
 
 mul-of-word : tie.Need-mul-of-word Inv-loop μ-loop
 mul-of-word c = search needs
@@ -38,8 +36,11 @@ shared-slice-read-of-word c = search needs
 of-word-requires : tie.Need-of-word-requires Inv-loop μ-loop
 of-word-requires c κs = search needs
 
-push-requires : tie.Need-push-requires Inv-loop μ-loop
-push-requires c κs = search needs
+mul-t12 : tie.Need-mul-t12 Inv-loop μ-loop
+mul-t12 c = search needs
+
+element-set-from-n : tie.Need-element-set-from-n Inv-loop μ-loop
+element-set-from-n c = search needs
 
 add-i : tie.Need-add-i Inv-loop μ-loop
 add-i c = search needs
@@ -49,21 +50,23 @@ loop-less c = search needs
 
 loop-again : tie.Need-loop-again Inv-loop μ-loop
 loop-again c =
-    let at = c .before .before .before .before .loop in
-    let w = c .before .before .before .before .before .before .before .before .args .words .now in
-    let h : at .i < length w = omega (arith, c .before .before .before .before .before .before .lesser .ensures) in (
+    let at = c .before .before .before .loop in
+    let w = c .before .before .before .before .before .before .before .args .words .now in
+    let e = c .before .before .before .before .before .lesser .ensures in
+    let h : at .i < 65 = omega (arith, e) in (
       search needs,
-      c .push .ensures ∙ ap₂ (λ (l : List ℕ) (v : ℕ). take room (l ++ (v ∷ []))) (at .inv .1) (c .before .of-word .ensures)
-          ∙ push-fits (take (at .i) w) (getD w (at .i) 0) (omega (arith, length-take (at .i) w, c .before .before .before .before .before .before .lesser .ensures))
-          ∙ sym (ap (λ (k : ℕ). take k w) (add-one (at .i)) ∙ take-suc w (at .i) 0 h),
+      simp length-set (at .inv .1),
+      write-next (take 65 w) (at .n .rows) (at .i) (c .of-word .result) (omega (arith, length-take 65 w, e)) (omega (arith, at .inv .1)) (at .inv .2)
+          (c .of-word .ensures ∙ sym (getD-take 65 w (at .i) 0 h)),
     )
 
 returns : tie.Need-returns Inv-loop μ-loop
-unfolding room rowsOfWords
+unfolding room rowsOf rowsOfWords
 returns c =
     let w = c .before .before .before .before .before .args .words .now in
-    let e : c .before .loop .i ≡ length (take 65 w) = omega (arith, c .before .before .before .lesser .ensures, length-take 65 w) in
-    c .before .loop .inv .1 ∙ ap (λ (k : ℕ). take k w) e ∙ take-counted 65 w
+    let at = c .before .loop in
+    let k = c .before .before .before .lesser in
+    write-end (take 65 w) (at .n .rows) (at .i) (k .result) (omega arith) (omega (arith, length-take 65 w, k .ensures)) (at .inv .2)
 
 pub load-spec : {M : Type 1} → statement M
 load-spec =
@@ -77,7 +80,8 @@ load-spec =
     mul-of-word
     shared-slice-read-of-word
     of-word-requires
-    push-requires
+    mul-t12
+    element-set-from-n
     add-i
     loop-less
     loop-again

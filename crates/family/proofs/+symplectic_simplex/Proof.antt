@@ -7,7 +7,7 @@ use mathlib.Core.Option.{some}
 use mathlib.Core.Logic.{⊎-elim}
 use native.Mathlib.Nat.{pos-of-ne-zero, eq-or-lt-of-le}
 use native.Mathlib.Omega.{arith}
-use Prim.Native.Nat.{ℕ, _+_, _-_, _≤_, _<_}
+use Prim.Native.Nat.{ℕ, _-_, _≤_, _<_}
 use lib.ListN.{length, getD, take, length-map}
 use borrow.Author.Needs.{needs}
 use borrow.Author.Tests.{not-true, not-false}
@@ -16,13 +16,13 @@ use Rattle.binar.specs.Rows.{val, blank}
 use Rattle.blocks.specs.Blocks.{room, rowsOf}
 use Rattle.blocks.specs.Matrices.{matmul}
 use Rattle.blocks.proofs.Values.{push-fits, unmapped}
-use Rattle.symplectic.specs.Picks.{mapSome}
+use Rattle.symplectic.specs.Picks.{when, mapSome}
 use Rattle.reduction.specs.Residue.{form}
 use Rattle.triangular.specs.declared.Space.{Space}
 use Rattle.triangular.specs.Readings.{basisOf, formsOf}
 use Rattle.triangular.proofs.Cores.{basis-length}
 use Rattle.family.specs.Family.{extended as extendedOf, symplecticSimplex}
-use Rattle.family.specs.Readings.{whenMade, simplexOf}
+use Rattle.family.specs.Readings.{simplexOf}
 use Rattle.family.proofs.Members.{member-is}
 use Rattle.family.proofs.Simplices.{simplex-empty, simplex-alone, simplex-pair}
 use borrow.Fn.Kinds.{In}
@@ -158,7 +158,7 @@ simplex-returns-3 t c =
     let o = c .before .before .before .symplectic-simplex .result in (
       omega (arith, c .unmade2 .ensures .1),
       λ E d h fit. c .unmade2 .ensures .0
-          ∙ sym (step t (c .before .before .before) E d h fit ∙ ap (λ (b : Bool). mapSome (extendedOf (form E) (first (c .before .before .before .before .before .before .before .before .args .t1)) (at (c .before .before .before .before .before .before .before .before .args .t1) (c .before .before .before .before .before .before .partner .result))) (whenMade b (rowsOf (o .vectors)))) (not-true (o .made) (c .before .if3 .taken))),
+          ∙ sym (step t (c .before .before .before) E d h fit ∙ ap (λ (b : Bool). mapSome (extendedOf (form E) (first (c .before .before .before .before .before .before .before .before .args .t1)) (at (c .before .before .before .before .before .before .before .before .args .t1) (c .before .before .before .before .before .before .partner .result))) (when b (rowsOf (o .vectors)))) (not-true (o .made) (c .before .if3 .taken))),
     )
 
 simplex-element-copy-out-extended : (t : ℕ) → lts.Need-element-copy-out-extended (claims t) (given t) symplectic-simplex.Post
@@ -194,7 +194,7 @@ simplex-returns-4 t c =
       omega (arith, ap (λ (m : List ℕ). length m) (c .extended .ensures), length-map vs (λ v. v ⊕ f)),
       λ E d h fit.
           ap some (c .extended .ensures ∙ ap₂ (λ (x y : ℕ). y ∷ (x ⊕ y) ∷ map (λ v. v ⊕ x) vs) (member-is s 0 (omega arith)) (member-is s j k))
-          ∙ sym (step t (c .before .before .before .before .before) E d h fit ∙ ap (λ (b : Bool). mapSome (extendedOf (form E) (first s) (at s j)) (whenMade b vs)) (not-false (o .made) (c .before .before .before .if3 .left))),
+          ∙ sym (step t (c .before .before .before .before .before) E d h fit ∙ ap (λ (b : Bool). mapSome (extendedOf (form E) (first s) (at s j)) (when b vs)) (not-false (o .made) (c .before .before .before .if3 .left))),
     )
 
 pub +symplectic-simplex-spec : {M : Type 1} → statement M

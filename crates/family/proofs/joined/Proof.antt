@@ -1,9 +1,9 @@
 -- `joined` puts a simplex behind the peeled vectors, by `marked-joined`.
 -- Assumes nothing.
 use Rattle.family.proofs.Peeling.{marked-joined}
-use Rattle.family.specs.Readings.{whenMade, simplexOf, marked, listOf, familyOf, peeledBefore}
+use Rattle.family.specs.Readings.{simplexOf, marked, listOf, familyOf, peeledBefore}
 use Rattle.symplectic.proofs.Lists.{map-eq}
-use Rattle.symplectic.specs.Picks.{mapSome}
+use Rattle.symplectic.specs.Picks.{when, mapSome}
 use Rattle.blocks.proofs.All.{All·any}
 use Rattle.blocks.specs.Blocks.{rowsOf}
 use Rattle.binar.proofs.Sums.{sum-zero}
@@ -27,7 +27,7 @@ unfolding simplexOf
 returns c =
     let s = c .before .before .before .args in
     c .without-family .ensures
-    ∙ sym (ap (λ (b : Bool). mapSome (peeledBefore (rowsOf (s .peeled))) (mapSome (map (λ (v : ℕ). (v, true))) (whenMade b (rowsOf (s .o .vectors))))) (not-true (s .o .made) (c .before .if1 .taken)))
+    ∙ sym (ap (λ (b : Bool). mapSome (peeledBefore (rowsOf (s .peeled))) (mapSome (map (λ (v : ℕ). (v, true))) (when b (rowsOf (s .o .vectors))))) (not-true (s .o .made) (c .before .if1 .taken)))
 
 length-of-requires : tie.Need-length-of-requires
 length-of-requires c κs = search needs
@@ -48,7 +48,7 @@ returns-2 c =
     map-eq (λ v. v ⊕ val (c .before .zero .result)) (λ v. v) vs (All·any (λ v. ap (λ (z : ℕ). v ⊕ z) (c .before .zero .ensures) ∙ sum-zero v) vs) ∙ map-id vs in
     ap₂ (λ (k : ℕ) (l : List ℕ). some (marked k l)) (c .before .before .length-of .ensures) (c .behind .ensures ∙ ap (λ (l : List ℕ). front ++ l) same)
     ∙ ap some (marked-joined front vs)
-    ∙ sym (ap (λ (b : Bool). mapSome (peeledBefore front) (mapSome (map (λ (v : ℕ). (v, true))) (whenMade b vs))) (not-false (s .o .made) (c .before .before .before .if1 .left)))
+    ∙ sym (ap (λ (b : Bool). mapSome (peeledBefore front) (mapSome (map (λ (v : ℕ). (v, true))) (when b vs))) (not-false (s .o .made) (c .before .before .before .if1 .left)))
 
 pub joined-spec : {M : Type 1} → statement M
 joined-spec =

@@ -3,10 +3,9 @@
 use Rattle.family.proofs.Others.{others-length, pairRest, rest-length, rest-member, rest-row}
 use Rattle.family.proofs.Members.{member-is, member-row}
 use Rattle.family.specs.Readings.{othersOf}
-use Rattle.triangular.proofs.Copies.{copied-next}
 use Rattle.triangular.proofs.Cores.{basis-length, space-form}
 use Rattle.triangular.specs.Readings.{basisOf, formsOf}
-use Rattle.blocks.proofs.Values.{unmapped}
+use Rattle.blocks.proofs.Values.{write-next, unmapped}
 use Rattle.blocks.proofs.Products.{matmul-length}
 use Rattle.blocks.specs.Matrices.{matmul}
 use Rattle.blocks.specs.Blocks.{vals}
@@ -136,10 +135,11 @@ loop-again c =
       simp length-set (at .inv .1),
       simp length-set (at .inv .2),
       λ E fit. (
-        copied-next (at .t .basis) (pairRest E j B) n (c .before .apart .result) (omega (arith, at .inv .1, start .pre .2)) (omega (arith, rest-length E j B low hj)) (member E fit) (at .inv .3 E fit .0),
-        copied-next (at .t .forms) (matmul (pairRest E j B) E) n (c .apart2 .result) (omega (arith, at .inv .2, start .pre .2)) (omega (arith, matmul-length (pairRest E j B) E, rest-length E j B low hj))
+        write-next (pairRest E j B) (at .t .basis) n (c .before .apart .result) (omega (arith, rest-length E j B low hj)) (omega (arith, at .inv .1, start .pre .2)) (at .inv .3 E fit .0) (member E fit),
+        write-next (matmul (pairRest E j B) E) (at .t .forms) n (c .apart2 .result) (omega (arith, matmul-length (pairRest E j B) E, rest-length E j B low hj)) (omega (arith, at .inv .2, start .pre .2))
+            (at .inv .3 E fit .1)
             (rest-row E j B y f p (a .result) (b .result) (val (c .before .apart .result)) new n (val (getD (s .forms) i blank)) (val (getD (s .forms) 0 blank)) (val (getD (s .forms) j blank)) (val (c .apart2 .result))
-            (member-row s i hi E fit) (member-row s 0 h0 E fit) (member-row s j high E fit) (c .apart2 .ensures) (member E fit)) (at .inv .3 E fit .1),
+            (member-row s i hi E fit) (member-row s 0 h0 E fit) (member-row s j high E fit) (c .apart2 .ensures) (member E fit)),
       ),
     )
 

@@ -1,14 +1,13 @@
 -- `swept` writes row after row, by `swept-write`; the pivot row stays as it is.
 -- Assumes nothing.
-use mathlib.Core.Path.{_≡_, refl, sym, ap, ap₂, _∙_}
+use mathlib.Core.Path.{_≡_, sym, ap, _∙_}
 use mathlib.Core.Bool.{Bool, not, _&&_}
-use mathlib.Core.List.{List}
 use Prim.Native.Nat.{ℕ, _-_, _≤_, _<_}
 use lib.Dec.{eqb}
-use lib.ListN.{length, getD, take}
+use lib.ListN.{length, getD}
 use Rattle.binar.specs.Bits.{bit, select, _⊕_}
 use Rattle.binar.specs.Rows.{val}
-use Rattle.blocks.specs.Blocks.{rowsOf, vals}
+use Rattle.blocks.specs.Blocks.{rowsOf}
 use Rattle.blocks.proofs.Values.{rows-get, rows-set, rows-fit, unmapped}
 use Rattle.reduction.specs.Sweeps.{swept}
 use Rattle.reduction.proofs.Sweep.{swept-zero, swept-length, swept-write}

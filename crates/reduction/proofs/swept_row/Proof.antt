@@ -1,8 +1,7 @@
 -- `swept_row` adds the pivot row where it must, by the cases of its two tests.
 -- Assumes nothing.
-use mathlib.Core.Path.{_≡_, refl, sym, ap, ap₂, _∙_}
-use mathlib.Core.Bool.{Bool, true, false, not, _&&_}
-use Prim.Native.Nat.{ℕ}
+use mathlib.Core.Path.{sym, ap, ap₂, _∙_}
+use mathlib.Core.Bool.{Bool, not, _&&_}
 use Rattle.binar.specs.Bits.{select, _⊕_}
 use Rattle.binar.specs.Rows.{val}
 use borrow.Author.Needs.{needs}

@@ -8,13 +8,13 @@ use lib.ListN.{length, take, length-set}
 use borrow.Author.Tests.{not-true, not-false}
 use Rattle.binar.specs.Rows.{val}
 use Rattle.blocks.specs.Blocks.{vals}
+use Rattle.blocks.proofs.Values.{taken-next}
 use Rattle.symplectic.specs.Turns.{followed}
 use Rattle.symplectic.specs.Actions.{qubits, matrix}
 use Rattle.symplectic.proofs.Arrays.{qubits-le}
 use Rattle.transvection.specs.Greedy.{nextTransvection, recorded}
 use Rattle.transvection.specs.Answers.{turns}
 use Rattle.transvection.proofs.Records.{record-step, record-done, record-end}
-use Rattle.transvection.proofs.Kept.{keep-more}
 use Rattle.transvection.proofs.Searches.{chosen-not, chosen-some}
 use borrow.Author.Needs.{needs}
 use Rattle.transvection.proofs.record_turns.Statement.{statement}
@@ -88,7 +88,7 @@ loop-again c =
     let next = c .before .before .before .before .next-transvection in
     let v = next .result .vector in
     let taken = ap (λ (k : ℕ). nextTransvection k (matrix (at .b))) (sym (at .inv .3)) ∙ sym (next .ensures) ∙ chosen-some (next .result) (not-false (next .result .found) (c .before .before .if1 .left)) in
-    let more = keep-more (at .kept .rows) (at .i) v (omega arith) ∙ ap (λ (k : ℕ). take k (vals (at .kept .rows)) ++ (val v ∷ [])) (sym (at .inv .4)) in
+    let more = taken-next (at .kept .rows) (at .i) v (omega arith) ∙ ap (λ (k : ℕ). take k (vals (at .kept .rows)) ++ (val v ∷ [])) (sym (at .inv .4)) in
     let turned = c .followed .ensures .1 ∙ ap (λ (k : ℕ). followed k (matrix (at .b)) (val v)) (at .inv .3) in (
       search needs,
       search needs,

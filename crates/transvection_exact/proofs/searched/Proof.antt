@@ -1,7 +1,7 @@
 -- `searched` replies to questions 6 and 7, by `searched-spent`, `searched-found`, `searched-unbordered` and `searched-bordered`.
 -- Assumes nothing.
 use mathlib.Core.Path.{_≡_, sym, ap, _∙_}
-use Prim.Native.Nat.{ℕ, _+_}
+use Prim.Native.Nat.{_+_}
 use borrow.Author.Tests.{not-true, not-false}
 use lib.ListN.{length}
 use Rattle.blocks.specs.Blocks.{rowsOf}

@@ -1,6 +1,6 @@
 -- `stored` lays the rows of a block into lent words, by what `store` and `length_of` ensure.
 -- Assumes nothing.
-use mathlib.Core.Path.{_≡_, ap}
+use mathlib.Core.Path.{ap}
 use Prim.Native.Nat.{ℕ}
 use Rattle.symplectic.specs.Replies.{toldOf, listed}
 use Rattle.transvection_exact.specs.declared.Minimal.the-variants.{Listed}

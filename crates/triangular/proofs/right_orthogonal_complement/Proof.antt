@@ -9,7 +9,7 @@ use Rattle.blocks.specs.Matrices.{matmul}
 use Rattle.binar.specs.Rows.{val}
 use Rattle.binar.specs.Bits.{dot}
 use lib.ListN.{length}
-use Prim.Native.Nat.{ℕ, _-_, _≤_}
+use Prim.Native.Nat.{ℕ, _≤_}
 use mathlib.Core.List.{List}
 use mathlib.Core.Path.{_≡_, sym, ap, _∙_}
 use native.Mathlib.Omega.{arith}

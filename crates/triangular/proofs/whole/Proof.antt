@@ -1,4 +1,4 @@
--- `whole` writes the unit rows and copies the rows of the core, by `units-next` and `copied-next`.
+-- `whole` writes the unit rows and copies the rows of the core, by `units-next` and `write-next`.
 -- Assumes nothing.
 use mathlib.Core.Path.{_≡_, refl, sym, ap, _∙_}
 use Prim.Native.Nat.{ℕ, _-_, _≤_, _<_, min}
@@ -9,9 +9,9 @@ use Rattle.binar.proofs.Ones.{unit-is}
 use Rattle.blocks.specs.declared.Block.{Block}
 use Rattle.blocks.specs.Blocks.{vals, rowsOf}
 use Rattle.blocks.specs.Matrices.{units}
-use Rattle.blocks.proofs.Values.{rows-get, take-counted}
+use Rattle.blocks.proofs.Values.{write-next, rows-get, take-counted}
 use Rattle.triangular.specs.Readings.{basisOf, formsOf, coreOf}
-use Rattle.triangular.proofs.Copies.{units-next, copied-next}
+use Rattle.triangular.proofs.Copies.{units-next}
 use borrow.Author.Needs.{needs}
 use Rattle.triangular.proofs.whole.Statement.{statement}
 use Rattle.triangular.proofs.whole.Tie as tie
@@ -79,7 +79,7 @@ loop-again c =
       simp length-set (at .inv .2),
       simp length-set (at .inv .3),
       units-next (at .s .basis) (at .i) (c .before .unit .result) (omega (arith, at .inv .2)) (c .before .unit .ensures ∙ unit-is (at .i) (below (at .i) (omega arith))) (at .inv .4),
-      copied-next (at .s .forms) (rowsOf core) (at .i) (getD (core .rows) (at .i) blank) (omega (arith, at .inv .3)) (omega arith) (rows-get core (at .i) (omega arith)) (at .inv .5),
+      write-next (rowsOf core) (at .s .forms) (at .i) (getD (core .rows) (at .i) blank) (omega arith) (omega (arith, at .inv .3)) (at .inv .5) (rows-get core (at .i) (omega arith)),
     )
 
 returns : tie.Need-returns Inv-loop μ-loop

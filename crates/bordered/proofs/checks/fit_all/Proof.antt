@@ -4,6 +4,7 @@ use Rattle.symplectic.proofs.Tests.{all-next, all-fails, all-end}
 use Rattle.symplectic.specs.Replies.{fitAll}
 use Rattle.symplectic.specs.Turns.{allOf}
 use Rattle.blocks.specs.Blocks.{rowsOf}
+use Rattle.blocks.proofs.Values.{rows-get, rows-fit, unmapped}
 use borrow.Author.Tests.{not-true, not-false}
 use lib.ListN.{length, take}
 use lib.Dec.{ltb}
@@ -16,7 +17,7 @@ use Rattle.bordered.proofs.checks.fit_all.Statement.{statement}
 use Rattle.bordered.proofs.checks.fit_all.Tie as tie
 
 abbrev Inv-loop : tie.InvT-loop
-Inv-loop m b k i₀ i = (i ≤ k) × (allOf (λ v. ltb v (2 ^ m)) (take i (rowsOf b)) ≡ true)
+Inv-loop m b k i₀ i = (i ≤ k) × (k ≤ 65) × (allOf (λ v. ltb v (2 ^ m)) (take i (rowsOf b)) ≡ true)
 
 abbrev μ-loop : tie.MeasureT-loop
 μ-loop m b k i₀ i = k - i
@@ -25,10 +26,15 @@ length-of-requires : tie.Need-length-of-requires Inv-loop μ-loop
 length-of-requires c κs = search needs
 
 loop-holds : tie.Need-loop-holds Inv-loop μ-loop
-loop-holds c = (search needs, refl)
+loop-holds c =
+    let h = rows-fit (c .before .args .t2) (search (needs, unmapped)) in
+    (search needs, omega (arith, c .length-of .ensures), refl)
 
-get-requires : tie.Need-get-requires Inv-loop μ-loop
-get-requires c κs = search needs
+mul-fits : tie.Need-mul-fits Inv-loop μ-loop
+mul-fits c = search needs
+
+element-copy-out-fits : tie.Need-element-copy-out-fits Inv-loop μ-loop
+element-copy-out-fits c = search needs
 
 fits-requires : tie.Need-fits-requires Inv-loop μ-loop
 fits-requires c κs = search needs
@@ -38,8 +44,8 @@ unfolding fitAll
 returns c =
     let s = c .before .before .before .before .before .before .args in
     let at = c .before .before .before .before .loop in
-    let h : at .i < length (rowsOf (s .b)) = omega (arith, c .before .before .before .before .before .length-of .ensures) in
-    all-fails (λ (v : ℕ). ltb v (2 ^ s .m)) 0 (rowsOf (s .b)) (at .i) h (sym (c .before .fits2 .ensures ∙ ap (λ (v : ℕ). ltb v (2 ^ s .m)) (c .before .before .get .ensures)) ∙ not-true (c .before .fits2 .result) (c .if1 .taken))
+    let h : at .i < length (rowsOf (s .t2)) = omega (arith, c .before .before .before .before .before .length-of .ensures) in
+    all-fails (λ (v : ℕ). ltb v (2 ^ s .m)) 0 (rowsOf (s .t2)) (at .i) h (sym (c .before .fits2 .ensures ∙ ap (λ (v : ℕ). ltb v (2 ^ s .m)) (rows-get (s .t2) (at .i) h)) ∙ not-true (c .before .fits2 .result) (c .if1 .taken))
 
 add-i : tie.Need-add-i Inv-loop μ-loop
 add-i c = search needs
@@ -51,14 +57,14 @@ loop-again : tie.Need-loop-again Inv-loop μ-loop
 loop-again c =
     let s = c .before .before .before .before .before .before .args in
     let at = c .before .before .before .before .loop in
-    let h : at .i < length (rowsOf (s .b)) = omega (arith, c .before .before .before .before .before .length-of .ensures) in
-    (search needs, all-next (λ (v : ℕ). ltb v (2 ^ s .m)) 0 (rowsOf (s .b)) (at .i) h (at .inv .1) (sym (c .before .fits2 .ensures ∙ ap (λ (v : ℕ). ltb v (2 ^ s .m)) (c .before .before .get .ensures)) ∙ not-false (c .before .fits2 .result) (c .if1 .left)))
+    let h : at .i < length (rowsOf (s .t2)) = omega (arith, c .before .before .before .before .before .length-of .ensures) in
+    (search needs, search needs, all-next (λ (v : ℕ). ltb v (2 ^ s .m)) 0 (rowsOf (s .t2)) (at .i) h (at .inv .2) (sym (c .before .fits2 .ensures ∙ ap (λ (v : ℕ). ltb v (2 ^ s .m)) (rows-get (s .t2) (at .i) h)) ∙ not-false (c .before .fits2 .result) (c .if1 .left)))
 
 returns-2 : tie.Need-returns-2 Inv-loop μ-loop
 unfolding fitAll
 returns-2 c =
     let s = c .before .before .before .args in
-    all-end (λ (v : ℕ). ltb v (2 ^ s .m)) (rowsOf (s .b)) (c .before .loop .i) (omega (arith, c .before .before .length-of .ensures)) (c .before .loop .inv .1)
+    all-end (λ (v : ℕ). ltb v (2 ^ s .m)) (rowsOf (s .t2)) (c .before .loop .i) (omega (arith, c .before .before .length-of .ensures)) (c .before .loop .inv .2)
 
 pub fit-all-spec : {M : Type 1} → statement M
 fit-all-spec =
@@ -68,7 +74,8 @@ fit-all-spec =
     μ-loop
     length-of-requires
     loop-holds
-    get-requires
+    mul-fits
+    element-copy-out-fits
     fits-requires
     returns
     add-i

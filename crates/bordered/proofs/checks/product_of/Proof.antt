@@ -4,11 +4,12 @@ use Rattle.symplectic.proofs.Products.{product-nil, product-next}
 use Rattle.symplectic.specs.Turns.{followed, product}
 use Rattle.symplectic.specs.Actions.{capped, qubits, matrix}
 use Rattle.blocks.specs.Blocks.{rowsOf}
-use Rattle.binar.specs.Rows.{val}
+use Rattle.blocks.proofs.Values.{rows-get, rows-fit, unmapped}
+use Rattle.binar.specs.Rows.{val, blank}
 use lib.Seq.{take-all}
-use lib.ListN.{take}
+use lib.ListN.{length, getD, take}
 use native.Mathlib.Numerals.{add-one}
-use Prim.Native.Nat.{ℕ, _-_, _≤_}
+use Prim.Native.Nat.{ℕ, _-_, _≤_, _<_}
 use mathlib.Core.List.{List}
 use mathlib.Core.Path.{_≡_, sym, ap, ap₂, _∙_}
 use native.Mathlib.Omega.{arith}
@@ -17,7 +18,7 @@ use Rattle.bordered.proofs.checks.product_of.Statement.{statement}
 use Rattle.bordered.proofs.checks.product_of.Tie as tie
 
 abbrev Inv-loop : tie.InvT-loop
-Inv-loop n b k a₀ i₀ a i = (i ≤ k) × (qubits a ≡ capped n) × (matrix a ≡ product (capped n) (take i (rowsOf b)))
+Inv-loop n b k a₀ i₀ a i = (i ≤ k) × (k ≤ 65) × (qubits a ≡ capped n) × (matrix a ≡ product (capped n) (take i (rowsOf b)))
 
 abbrev μ-loop : tie.MeasureT-loop
 μ-loop n b k a₀ i₀ a i = k - i
@@ -29,10 +30,15 @@ identity-requires : tie.Need-identity-requires Inv-loop μ-loop
 identity-requires c κs = search needs
 
 loop-holds : tie.Need-loop-holds Inv-loop μ-loop
-loop-holds c = (search needs, c .identity .ensures .0, c .identity .ensures .1 ∙ sym (product-nil (capped (c .before .before .args .n))))
+loop-holds c =
+    let h = rows-fit (c .before .before .args .t2) (search (needs, unmapped)) in
+    (search needs, omega (arith, c .before .length-of .ensures), c .identity .ensures .0, c .identity .ensures .1 ∙ sym (product-nil (capped (c .before .before .args .n))))
 
-get-requires : tie.Need-get-requires Inv-loop μ-loop
-get-requires c κs = search needs
+mul-followed : tie.Need-mul-followed Inv-loop μ-loop
+mul-followed c = search needs
+
+element-copy-out-followed : tie.Need-element-copy-out-followed Inv-loop μ-loop
+element-copy-out-followed c = search needs
 
 followed-requires : tie.Need-followed-requires Inv-loop μ-loop
 followed-requires c κs = search needs
@@ -48,19 +54,22 @@ loop-again c =
     let s = c .before .before .before .before .before .before .args in
     let at = c .before .before .before .loop in
     let q = capped (s .n) in
-    let vs = rowsOf (s .b) in (
+    let vs = rowsOf (s .t2) in
+    let v = val (getD (s .t2 .rows) (at .i) blank) in
+    let h : at .i < length vs = omega (arith, c .before .before .before .before .before .length-of .ensures) in (
       search needs,
-      c .followed .ensures .0 ∙ at .inv .1,
-      c .followed .ensures .1 ∙ ap (λ (k : ℕ). followed k (matrix (at .a)) (val (c .before .get .result))) (at .inv .1)
-          ∙ ap₂ (λ (F : List ℕ) (v : ℕ). followed q F v) (at .inv .2) (c .before .get .ensures)
-          ∙ sym (ap (λ (k : ℕ). product q (take k vs)) (add-one (at .i)) ∙ product-next q vs (at .i) (omega (arith, c .before .before .before .before .before .length-of .ensures))),
+      at .inv .1,
+      c .followed .ensures .0 ∙ at .inv .2,
+      c .followed .ensures .1 ∙ ap (λ (k : ℕ). followed k (matrix (at .a)) v) (at .inv .2)
+          ∙ ap₂ (λ (F : List ℕ) (v : ℕ). followed q F v) (at .inv .3) (rows-get (s .t2) (at .i) h)
+          ∙ sym (ap (λ (k : ℕ). product q (take k vs)) (add-one (at .i)) ∙ product-next q vs (at .i) h),
     )
 
 returns : tie.Need-returns Inv-loop μ-loop
 returns c =
     let s = c .before .before .before .before .args in
     let at = c .before .loop in
-    (at .inv .1, at .inv .2 ∙ ap (product (capped (s .n))) (take-all (at .i) (rowsOf (s .b)) (omega (arith, c .before .before .before .length-of .ensures))))
+    (at .inv .2, at .inv .3 ∙ ap (product (capped (s .n))) (take-all (at .i) (rowsOf (s .t2)) (omega (arith, c .before .before .before .length-of .ensures))))
 
 pub product-of-spec : {M : Type 1} → statement M
 product-of-spec =
@@ -71,7 +80,8 @@ product-of-spec =
     length-of-requires
     identity-requires
     loop-holds
-    get-requires
+    mul-followed
+    element-copy-out-followed
     followed-requires
     add-i
     loop-less

@@ -1,7 +1,6 @@
 //! Looks a second of the proved search, of the same search in plain Rust and in Rust with its memory laid out beforehand, and,
-//! where they are at hand, of the reference model and the Rust source, on the same inputs in one run.
-use std::io::Write;
-use std::process::{Command, Stdio};
+//! where it is at hand, of the reference model, on the same inputs in one run.
+use std::process::Command;
 use std::time::Instant;
 
 mod plain;
@@ -9,7 +8,6 @@ mod tuned;
 
 extern "C" {
     fn search_core(core: *const u64, rows: usize, budget: u64) -> u64;
-    fn search_action(n: u64, rows: *const u64, count: usize, budget: u64) -> u64;
 }
 
 fn proved(core: &[u64], budget: u64) -> u64 {
@@ -64,42 +62,8 @@ fn model_rates(model: &str) -> Vec<(String, f64)> {
         .collect()
 }
 
-/// Actions whose search draws many looks, with the looks that an unbudgeted search draws.
-fn actions(path: &str) -> Vec<(u64, Vec<u64>)> {
-    let text = std::fs::read_to_string(path).unwrap_or_default();
-    text.lines()
-        .filter_map(|line| {
-            let parts: Vec<&str> = line.split('|').collect();
-            let head: Vec<u64> = parts[0].split_whitespace().map(|x| x.parse().unwrap()).collect();
-            let least: Vec<&str> = parts[2].split_whitespace().collect();
-            let looks: u64 = least[3].parse().unwrap();
-            let rows = parts[1].split_whitespace().map(|x| u64::from_str_radix(x, 16).unwrap()).collect();
-            (least[1] == "0" && (20_000..400_000).contains(&looks)).then_some((head[0], rows))
-        })
-        .collect()
-}
-
-/// The source's draws a second on these actions.
-fn source_rate(oracle: &str, of: &[(u64, Vec<u64>)]) -> Option<f64> {
-    let mut child = Command::new(oracle).stdin(Stdio::piped()).stdout(Stdio::piped()).stderr(Stdio::null()).spawn().ok()?;
-    let mut input = String::new();
-    for (n, rows) in of {
-        input += &format!("{n}{}\n", rows.iter().map(|r| format!(" {r:x}")).collect::<String>());
-    }
-    let start = Instant::now();
-    child.stdin.take()?.write_all(input.as_bytes()).ok()?;
-    let out = child.wait_with_output().ok()?;
-    let seconds = start.elapsed().as_secs_f64();
-    let visits: u64 = String::from_utf8_lossy(&out.stdout)
-        .lines()
-        .filter_map(|l| l.split("visits:").nth(1)?.split_whitespace().next()?.parse::<u64>().ok())
-        .sum();
-    Some(visits as f64 / seconds / 1e6)
-}
-
 fn main() {
-    let words: Vec<String> = std::env::args().skip(1).collect();
-    let (bin, vectors) = (words.first().cloned().unwrap_or_default(), words.get(1).cloned().unwrap_or_default());
+    let bin = std::env::args().nth(1).unwrap_or_default();
     let cases = [("scan", 32usize, 400_000_000u64), ("scan", 64, 400_000_000), ("dead", 8, 20_000_000), ("dead", 16, 20_000_000), ("dead", 32, 20_000_000)];
     let model = model_rates(&format!("{bin}/model"));
     println!("million looks a second; ours / plain is our time over that of the plain Rust");
@@ -123,17 +87,5 @@ fn main() {
             best / ours,
             theirs.map_or("-".into(), |m| format!("rate {:.2}", rust / m))
         );
-    }
-    let of = actions(&vectors);
-    if of.is_empty() {
-        println!("the Rust source: not at hand");
-        return;
-    }
-    let start = Instant::now();
-    let looks: u64 = of.iter().map(|(n, rows)| unsafe { search_action(*n, rows.as_ptr(), rows.len(), u64::MAX) }).sum();
-    let ours = looks as f64 / start.elapsed().as_secs_f64() / 1e6;
-    match source_rate(&format!("{bin}/oracle"), &of) {
-        Some(theirs) => println!("{} actions: proved {ours:.1}, the Rust source {theirs:.1}, ours / source {:.1}", of.len(), ours / theirs),
-        None => println!("{} actions: proved {ours:.1}; the Rust source is not at hand", of.len()),
     }
 }

@@ -1,0 +1,213 @@
+//! Microseconds of whole calls, minimal and greedy, beside the Rust source where it is at hand: on the same layers, in one
+//! process, the two sides in turn. Both sides' lists are compared before they are timed.
+use std::hint::black_box;
+use std::time::Instant;
+
+mod layers;
+mod ours;
+mod source;
+
+use source::Source;
+
+const BUDGET: u64 = 1_000_000;
+const LAYERS: usize = 8;
+const ROUNDS: usize = 25;
+
+/// A kind of layer: its name, its qubit counts, and its rows for a seed.
+type Family = (&'static str, &'static [usize], fn(usize, u64) -> Vec<u64>);
+
+const FAMILIES: [Family; 4] = [
+    ("uniform", &[4, 8, 16, 32], layers::uniform),
+    ("gates", &[8, 16, 32], |n, seed| ours::gate_rows(n, &layers::circuit(n, seed))),
+    ("swaps", &[8, 16, 32], |n, seed| ours::gate_rows(n, &layers::swaps(n, seed))),
+    ("permuted", &[4, 6, 8, 12], layers::permuted),
+];
+
+/// A layer whose search stays within the budget, with what its calls answer.
+struct Layer {
+    n: usize,
+    rows: Vec<u64>,
+    source: Option<Source>,
+    looks: u64,
+    draws: u64,
+}
+
+/// The layer of these rows; none where its search is spent.
+fn layer(n: usize, rows: Vec<u64>) -> Option<Layer> {
+    let mut out = [0; ours::ROOM];
+    let (number, count, looks) = ours::minimal(n, &rows, BUDGET, &mut out);
+    if number == 6 {
+        return None;
+    }
+    assert_eq!(number, 0, "the minimal call is refused");
+    let source = Source::of(n, &rows);
+    let mut draws = 0;
+    if let Some(s) = &source {
+        let (list, drawn) = s.minimal_list();
+        assert_eq!(list, out[..count], "the minimal lists differ");
+        draws = drawn;
+    }
+    let (number, count) = ours::greedy(n, &rows, &mut out);
+    assert_eq!(number, 0, "the greedy call is refused");
+    if let Some(s) = &source {
+        assert_eq!(s.greedy_list(), out[..count], "the greedy lists differ");
+    }
+    Some(Layer { n, rows, source, looks, draws })
+}
+
+/// The best time of a call so far, in microseconds; samples grow until they are long enough to be timed.
+struct Clock {
+    calls: u32,
+    best: f64,
+}
+
+impl Clock {
+    fn new() -> Self {
+        Clock { calls: 1, best: f64::MAX }
+    }
+
+    fn sample<T>(&mut self, mut call: impl FnMut() -> T) {
+        let start = Instant::now();
+        for _ in 0..self.calls {
+            black_box(call());
+        }
+        let micros = start.elapsed().as_secs_f64() * 1e6;
+        self.best = self.best.min(micros / self.calls as f64);
+        if micros < 250.0 {
+            self.calls *= 2;
+        }
+    }
+}
+
+/// The clocks of a layer: ours, the source's, and the source's other figure (the signed call; the stand-in's part).
+type Clocks = [Clock; 3];
+
+fn minimal_sample(layer: &Layer, clocks: &mut Clocks) {
+    let mut out = [0; ours::ROOM];
+    clocks[0].sample(|| ours::minimal(layer.n, &layer.rows, BUDGET, &mut out));
+    if let Some(s) = &layer.source {
+        clocks[1].sample(|| s.minimal());
+        clocks[2].sample(|| s.signed());
+    }
+}
+
+fn greedy_sample(layer: &Layer, clocks: &mut Clocks) {
+    let mut out = [0; ours::ROOM];
+    clocks[0].sample(|| ours::greedy(layer.n, &layer.rows, &mut out));
+    if let Some(s) = &layer.source {
+        clocks[1].sample(|| s.greedy());
+        clocks[2].sample(|| s.preimages());
+    }
+}
+
+/// Times each layer in turn, round after round, for at most some seconds.
+fn timed(of: &[Layer], sample: fn(&Layer, &mut Clocks)) -> Vec<Clocks> {
+    let mut clocks: Vec<Clocks> = of.iter().map(|_| [Clock::new(), Clock::new(), Clock::new()]).collect();
+    let start = Instant::now();
+    for _ in 0..ROUNDS {
+        for (layer, c) in of.iter().zip(&mut clocks) {
+            sample(layer, c);
+        }
+        if start.elapsed().as_secs() >= 5 {
+            break;
+        }
+    }
+    clocks
+}
+
+fn mean(clocks: &[Clocks], side: usize) -> f64 {
+    clocks.iter().map(|c| c[side].best).sum::<f64>() / clocks.len() as f64
+}
+
+fn worst(clocks: &[Clocks]) -> f64 {
+    clocks.iter().map(|c| c[0].best / c[1].best).fold(0.0, f64::max)
+}
+
+/// The columns that both tables have, and our mean time.
+fn common(name: &str, n: usize, clocks: &[Clocks], above: Option<f64>, known: bool) -> (String, f64) {
+    let ours = mean(clocks, 0);
+    let of_source = |text: String| if known { text } else { "-".into() };
+    let line = format!(
+        "{:>13}{:>8}  {:<11}{:>9.1}{:>9}{:>10}{:>8}",
+        of_source(format!("{:.2}", ours / mean(clocks, 1))),
+        of_source(format!("{:.2}", worst(clocks))),
+        format!("{name} {n}"),
+        ours,
+        of_source(format!("{:.1}", mean(clocks, 1))),
+        of_source(format!("{:.1}", mean(clocks, 2))),
+        above.map_or("".into(), |a| format!("x {:.1}", ours / a)),
+    );
+    (line, ours)
+}
+
+/// Layers of a family, and how many seeds were passed over because their search is spent.
+fn chosen(n: usize, rows: fn(usize, u64) -> Vec<u64>) -> (Vec<Layer>, usize) {
+    let mut found = Vec::new();
+    let mut passed = 0;
+    for seed in 1.. {
+        match layer(n, rows(n, seed)) {
+            Some(l) => found.push(l),
+            None => passed += 1,
+        }
+        if found.len() == LAYERS {
+            break;
+        }
+    }
+    (found, passed)
+}
+
+fn minimal_table(all: &[(&str, usize, Vec<Layer>, usize)]) {
+    println!("the minimal call; source: minimal_decomposition alone; signed: the source's call with phases and Pauli correction");
+    println!(
+        "{:>13}{:>8}  {:<11}{:>9}{:>9}{:>10}{:>8}{:>9}{:>9}{:>12}{:>7}",
+        "ours / source", "worst", "layers", "ours", "source", "signed", "growth", "looks", "draws", "M looks/s", "spent"
+    );
+    let mut above: Option<(&str, f64)> = None;
+    for (name, n, of, passed) in all {
+        let clocks = timed(of, minimal_sample);
+        let known = of[0].source.is_some();
+        let before = above.filter(|a| a.0 == *name).map(|a| a.1);
+        let (line, micros) = common(name, *n, &clocks, before, known);
+        let looks = of.iter().map(|l| l.looks).sum::<u64>() as f64 / of.len() as f64;
+        let draws = of.iter().map(|l| l.draws).sum::<u64>() as f64 / of.len() as f64;
+        let draws = if known { format!("{draws:.0}") } else { "-".into() };
+        let rate = if looks > 0.0 { format!("{:.1}", looks / micros) } else { "-".into() };
+        println!("{line}{looks:>9.0}{draws:>9}{rate:>12}{passed:>7}");
+        above = Some((*name, micros));
+    }
+}
+
+fn greedy_table(all: &[(&str, usize, Vec<Layer>, usize)]) {
+    println!("the greedy call; source: clifford_to_transvections; stand-in: its part that is not the source's code");
+    println!(
+        "{:>13}{:>8}  {:<11}{:>9}{:>9}{:>10}{:>8}",
+        "ours / source", "worst", "layers", "ours", "source", "stand-in", "growth"
+    );
+    let mut above: Option<(&str, f64)> = None;
+    for (name, n, of, _) in all {
+        let clocks = timed(of, greedy_sample);
+        let before = above.filter(|a| a.0 == *name).map(|a| a.1);
+        let (line, micros) = common(name, *n, &clocks, before, of[0].source.is_some());
+        println!("{}", line.trim_end());
+        above = Some((*name, micros));
+    }
+}
+
+fn main() {
+    let mut all = Vec::new();
+    for (name, widths, rows) in FAMILIES {
+        for &n in widths {
+            let (of, passed) = chosen(n, rows);
+            all.push((name, n, of, passed));
+        }
+    }
+    println!(
+        "microseconds a call: the mean of {LAYERS} layers, of each the best of {ROUNDS} samples, ours and the source in turn"
+    );
+    println!("worst: the highest ratio of one layer; growth: our time over that of the row above");
+    if all[0].2[0].source.is_none() {
+        println!("the Rust source is not at hand");
+    }
+    minimal_table(&all);
+    greedy_table(&all);
+}

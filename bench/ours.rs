@@ -1,0 +1,46 @@
+//! The proved calls, by C's conventions.
+
+#[link(name = "cabi", kind = "static")]
+extern "C" {
+    fn turnlist_minimal(
+        n: u64,
+        rows: *const u64,
+        row_count: usize,
+        budget: u64,
+        out: *mut u64,
+        out_len: usize,
+        count: *mut u64,
+        looks: *mut u64,
+    ) -> u64;
+    fn turnlist_greedy(n: u64, rows: *const u64, row_count: usize, out: *mut u64, out_len: usize, count: *mut u64) -> u64;
+    fn turnlist_gates(n: u64, gates: *const u8, byte_count: usize, out: *mut u64, out_len: usize, count: *mut u64) -> u64;
+}
+
+/// Words enough for either list.
+pub const ROOM: usize = 130;
+
+/// The refusal, how many vectors were listed, and the looks.
+pub fn minimal(n: usize, rows: &[u64], budget: u64, out: &mut [u64; ROOM]) -> (u64, usize, u64) {
+    let (mut count, mut looks) = (0, 0);
+    let number = unsafe {
+        turnlist_minimal(n as u64, rows.as_ptr(), rows.len(), budget, out.as_mut_ptr(), ROOM, &mut count, &mut looks)
+    };
+    (number, count as usize, looks)
+}
+
+/// The refusal, and how many vectors were listed.
+pub fn greedy(n: usize, rows: &[u64], out: &mut [u64; ROOM]) -> (u64, usize) {
+    let mut count = 0;
+    let number = unsafe { turnlist_greedy(n as u64, rows.as_ptr(), rows.len(), out.as_mut_ptr(), ROOM, &mut count) };
+    (number, count as usize)
+}
+
+/// The rows of a gate sequence.
+pub fn gate_rows(n: usize, gates: &[u8]) -> Vec<u64> {
+    let mut rows = vec![0; 2 * n];
+    let mut count = 0;
+    let number =
+        unsafe { turnlist_gates(n as u64, gates.as_ptr(), gates.len(), rows.as_mut_ptr(), rows.len(), &mut count) };
+    assert_eq!((number, count), (0, 2 * n as u64), "the gate sequence is refused");
+    rows
+}

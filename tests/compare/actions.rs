@@ -1,0 +1,76 @@
+//! All calls on one action: the minimal list at several budgets, the greedy list, and both lists rebuilt.
+use crate::check::Checker;
+use crate::library::{Call, Question};
+use crate::source::Listed;
+use crate::words::residue_rank;
+
+/// One action to compare: how many output words more than needed are lent, and the budget of the first search.
+pub struct Sample<'a> {
+    pub family: &'static str,
+    pub n: usize,
+    pub rows: &'a [u64],
+    pub spare: usize,
+    pub cap: u64,
+}
+
+impl Sample<'_> {
+    fn minimal(&self, budget: u64) -> Question {
+        Question::of_words(Call::Minimal { budget }, self.n as u64, self.rows, 2 * self.n + 1 + self.spare)
+    }
+
+    /// Compares every call on the action; its lists, where the search was not spent.
+    pub fn compare(&self, check: &mut Checker) -> Option<Listed> {
+        let minimal = self.minimal_list(check);
+        let question = Question::of_words(Call::Greedy, self.n as u64, self.rows, 4 * self.n + 2 + self.spare);
+        let greedy = check.call(self.family, &question).list().to_vec();
+        self.rebuild(check, &greedy);
+        let (minimal, looks) = minimal?;
+        Some(Listed { n: self.n, rows: self.rows.to_vec(), minimal, greedy, looks })
+    }
+
+    fn minimal_list(&self, check: &mut Checker) -> Option<(Vec<u64>, u64)> {
+        let question = self.minimal(self.cap);
+        let before = check.differ;
+        let seen = check.call(self.family, &question);
+        if check.differ > before {
+            return None; // other budgets might search without end
+        }
+        let tally = check.tally(self.family);
+        tally.actions += 1;
+        if seen.number != 0 {
+            tally.spent += 1;
+            for budget in [0, 1, self.cap - 1] {
+                check.call(self.family, &self.minimal(budget));
+            }
+            return None;
+        }
+        let rank = residue_rank(self.n, self.rows);
+        tally.most_looks = tally.most_looks.max(seen.looks);
+        tally.extra_turn += u64::from(seen.count == rank as u64 + 1);
+        check.require(
+            seen.count == rank as u64 || seen.count == rank as u64 + 1,
+            &question,
+            "neither r nor r + 1 turns",
+        );
+        self.around(check, seen.looks);
+        self.rebuild(check, seen.list());
+        Some((seen.list().to_vec(), seen.looks))
+    }
+
+    /// The budgets at which the answer begins, and the least and greatest of all.
+    fn around(&self, check: &mut Checker, looks: u64) {
+        let mut budgets = vec![0, looks.saturating_sub(1), looks, looks.saturating_add(1), u64::MAX];
+        budgets.dedup();
+        for budget in budgets {
+            let question = self.minimal(budget);
+            let number = check.call(self.family, &question).number;
+            check.require((number == 0) == (budget >= looks), &question, "spent with looks left, or not spent without");
+        }
+    }
+
+    fn rebuild(&self, check: &mut Checker, list: &[u64]) {
+        let question = Question::of_words(Call::Rebuild, self.n as u64, list, 2 * self.n);
+        let rebuilt = check.call(self.family, &question);
+        check.require(rebuilt.out == self.rows, &question, "the list's product is not the action");
+    }
+}

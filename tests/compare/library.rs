@@ -1,0 +1,191 @@
+//! The four functions of the library behind one safe call. Every lent buffer stands between guard words of a known pattern.
+
+extern "C" {
+    fn turnlist_minimal(
+        n: u64,
+        rows: *const u64,
+        row_count: usize,
+        budget: u64,
+        out: *mut u64,
+        out_len: usize,
+        count: *mut u64,
+        looks: *mut u64,
+    ) -> u64;
+    fn turnlist_greedy(
+        n: u64,
+        rows: *const u64,
+        row_count: usize,
+        out: *mut u64,
+        out_len: usize,
+        count: *mut u64,
+    ) -> u64;
+    fn turnlist_rebuild(
+        n: u64,
+        vectors: *const u64,
+        vector_count: usize,
+        out: *mut u64,
+        out_len: usize,
+        count: *mut u64,
+    ) -> u64;
+    fn turnlist_gates(
+        n: u64,
+        gates: *const u8,
+        byte_count: usize,
+        out: *mut u64,
+        out_len: usize,
+        count: *mut u64,
+    ) -> u64;
+}
+
+#[derive(Clone, Copy, Debug, PartialEq)]
+pub enum Call {
+    Minimal { budget: u64 },
+    Greedy,
+    Rebuild,
+    Gates,
+}
+
+/// One call with its input: words are rows or vectors, bytes are gates, out is the length of the output lent.
+#[derive(Clone, Debug)]
+pub struct Question {
+    pub call: Call,
+    pub n: u64,
+    pub words: Vec<u64>,
+    pub bytes: Vec<u8>,
+    pub out: usize,
+}
+
+impl Question {
+    pub fn of_words(call: Call, n: u64, words: &[u64], out: usize) -> Question {
+        Question { call, n, words: words.to_vec(), bytes: Vec::new(), out }
+    }
+
+    pub fn of_gates(n: u64, bytes: &[u8], out: usize) -> Question {
+        Question { call: Call::Gates, n, words: Vec::new(), bytes: bytes.to_vec(), out }
+    }
+}
+
+/// What a caller sees after a call: the number, the lent words, and whether all else is as it was.
+#[derive(Clone, Debug, PartialEq)]
+pub struct Seen {
+    pub number: u64,
+    pub out: Vec<u64>,
+    pub count: u64,
+    pub looks: u64,
+    pub guards: bool,
+    pub input: bool,
+}
+
+impl Seen {
+    /// The lent words before any call.
+    pub fn untouched(number: u64, out: usize) -> Seen {
+        Seen { number, out: pattern(out), count: COUNT, looks: LOOKS, guards: true, input: true }
+    }
+
+    /// The words listed; none on a refusal.
+    pub fn list(&self) -> &[u64] {
+        match self.number {
+            0 => &self.out[..self.out.len().min(self.count as usize)],
+            _ => &[],
+        }
+    }
+}
+
+const GUARDS: usize = 8;
+const COUNT: u64 = 0xC0C0_5EED_0000_C0C0;
+const LOOKS: u64 = 0x1001_5EED_0000_1001;
+
+/// Words that no call writes by chance, each of them different.
+fn pattern(length: usize) -> Vec<u64> {
+    (1..=length as u64).map(|i| i.wrapping_mul(0xD1B5_4A32_D192_ED03) | 1 << 63).collect()
+}
+
+/// A buffer between guards.
+pub struct Fenced<T> {
+    pub all: Vec<T>,
+    guard: Vec<T>,
+}
+
+impl<T: Copy + PartialEq> Fenced<T> {
+    fn new(content: &[T], guard: Vec<T>) -> Fenced<T> {
+        Fenced { all: [&guard, content, &guard].concat(), guard }
+    }
+
+    pub fn content(&mut self) -> &mut [T] {
+        let end = self.all.len() - self.guard.len();
+        &mut self.all[self.guard.len()..end]
+    }
+
+    fn pointer(&mut self) -> *mut T {
+        // from the whole buffer, so that a stray write lands in a guard
+        unsafe { self.all.as_mut_ptr().add(self.guard.len()) }
+    }
+
+    fn guarded(&self) -> bool {
+        self.all.starts_with(&self.guard) && self.all.ends_with(&self.guard)
+    }
+}
+
+/// All that is lent to one call.
+pub struct Lent {
+    pub words: Fenced<u64>,
+    pub bytes: Fenced<u8>,
+    pub out: Fenced<u64>,
+    pub count: Fenced<u64>,
+    pub looks: Fenced<u64>,
+}
+
+impl Lent {
+    fn new(question: &Question) -> Lent {
+        let words = |content: &[u64]| Fenced::new(content, pattern(GUARDS));
+        Lent {
+            words: words(&question.words),
+            bytes: Fenced::new(&question.bytes, (1..=8 * GUARDS as u8).map(|i| i ^ 0xA5).collect()),
+            out: words(&pattern(question.out)),
+            count: words(&[COUNT]),
+            looks: words(&[LOOKS]),
+        }
+    }
+
+    fn pass(&mut self, question: &Question) -> u64 {
+        let n = question.n;
+        let (words, word_count) = (self.words.pointer(), question.words.len());
+        let (out, count, looks) = (self.out.pointer(), self.count.pointer(), self.looks.pointer());
+        // SAFETY: each pointer is to a buffer of the length passed with it, and no two overlap.
+        unsafe {
+            match question.call {
+                Call::Minimal { budget } => {
+                    turnlist_minimal(n, words, word_count, budget, out, question.out, count, looks)
+                }
+                Call::Greedy => turnlist_greedy(n, words, word_count, out, question.out, count),
+                Call::Rebuild => turnlist_rebuild(n, words, word_count, out, question.out, count),
+                Call::Gates => turnlist_gates(n, self.bytes.pointer(), question.bytes.len(), out, question.out, count),
+            }
+        }
+    }
+
+    fn guarded(&self) -> bool {
+        let words = [&self.words, &self.out, &self.count, &self.looks];
+        words.iter().all(|buffer| buffer.guarded()) && self.bytes.guarded()
+    }
+}
+
+/// Damage to what a call left, for the comparison's own test.
+pub type Spoil<'a> = &'a dyn Fn(&mut Lent, &mut u64);
+
+/// Makes the call; the damage, if any, is done before anything is looked at.
+pub fn answer(question: &Question, spoil: Option<Spoil>) -> Seen {
+    let mut lent = Lent::new(question);
+    let mut number = lent.pass(question);
+    if let Some(spoil) = spoil {
+        spoil(&mut lent, &mut number);
+    }
+    Seen {
+        number,
+        guards: lent.guarded(),
+        input: lent.words.content() == question.words && lent.bytes.content() == question.bytes,
+        out: lent.out.content().to_vec(),
+        count: lent.count.content()[0],
+        looks: lent.looks.content()[0],
+    }
+}

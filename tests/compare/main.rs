@@ -1,0 +1,143 @@
+//! The library's four calls beside an independent model, and beside the Rust source where its program is named.
+//! Arguments: the source's program or `-`; then, if wanted, `three` (every action on 3 qubits too), or `plant` and the number of
+//! a call whose count is to be damaged.
+mod actions;
+mod check;
+mod edges;
+mod layers;
+mod library;
+mod minimal;
+mod model;
+mod selftest;
+mod source;
+mod words;
+
+use actions::Sample;
+use check::Checker;
+use layers::{all_actions, Family, Layers, FAMILIES};
+use library::{Call, Question};
+use source::Listed;
+
+/// The budget of the sampled searches.
+const CAP: u64 = 20_000;
+/// Actions of each family at each width.
+const SAMPLES: usize = 150;
+
+/// Every symplectic action on 0 to this many qubits.
+fn every_action(check: &mut Checker, most: usize, listed: &mut Vec<Listed>) {
+    for n in 0..=most {
+        for (k, (rows, _)) in all_actions(n).iter().enumerate() {
+            let sample = Sample { family: "every action", n, rows, spare: k % 3, cap: 1_000_000 };
+            listed.extend(sample.compare(check));
+        }
+    }
+}
+
+/// Every matrix on 0 to 2 qubits, and many with high bits on 1.
+fn every_matrix(check: &mut Checker) {
+    for n in 0..=2usize {
+        let values = 1u64 << (2 * n);
+        for code in 0..values.pow(2 * n as u32) {
+            let rows: Vec<u64> = (0..2 * n as u32).map(|k| code / values.pow(k) % values).collect();
+            for call in [Call::Minimal { budget: 3 }, Call::Greedy] {
+                check.call("every matrix", &Question::of_words(call, n as u64, &rows, 4 * n + 2));
+            }
+        }
+    }
+    for (a, b) in (0..64).flat_map(|a| (0..64).map(move |b| (a, b))) {
+        let wide = |code: u64| code & 7 | (code >> 3 & 1) << 3 | (code >> 4 & 1) << 31 | (code >> 5) << 63;
+        let question = Question::of_words(Call::Minimal { budget: 3 }, 1, &[wide(a), wide(b)], 3);
+        check.call("every matrix", &question);
+    }
+}
+
+fn sampled(check: &mut Checker, layers: &mut Layers, listed: &mut Vec<Listed>) {
+    for n in 3..=32 {
+        for (family, name) in FAMILIES {
+            for k in 0..SAMPLES {
+                let rows = layers.action(family, n);
+                let sample = Sample { family: name, n, rows: &rows, spare: k % 4, cap: CAP };
+                listed.extend(sample.compare(check));
+            }
+        }
+    }
+}
+
+/// Searches of up to a million looks.
+fn deep(check: &mut Checker, layers: &mut Layers, listed: &mut Vec<Listed>) {
+    for k in 0..240 {
+        let n = 5 + k / 2 % 6;
+        let rows = layers.action(if k % 2 == 0 { Family::Exceptional } else { Family::Permutation }, n);
+        let sample = Sample { family: "deep searches", n, rows: &rows, spare: 0, cap: 1_000_000 };
+        listed.extend(sample.compare(check));
+    }
+}
+
+fn circuits(check: &mut Checker, layers: &mut Layers, listed: &mut Vec<Listed>) {
+    for n in 1..=32 {
+        for k in 0..SAMPLES {
+            let gates = layers.random.below(if k % 2 == 0 { 8 } else { 20 * n });
+            let bytes = edges::circuit(&mut layers.random, n, gates);
+            let seen = check.call("gate circuits", &Question::of_gates(n as u64, &bytes, 2 * n));
+            let sample = Sample { family: "gate circuits", n, rows: &seen.out, spare: 0, cap: CAP };
+            listed.extend(sample.compare(check));
+        }
+    }
+}
+
+/// The edges, with as many random samples as are asked for.
+fn all_edges(check: &mut Checker, layers: &mut Layers, samples: usize) {
+    edges::lengths(check, layers);
+    edges::widths(check);
+    edges::wide_words(check, layers);
+    edges::damaged_rows(check, layers);
+    edges::several(check, layers, samples);
+    edges::gate_faults(check, &mut layers.random, samples);
+    edges::long_inputs(check, &mut layers.random);
+}
+
+/// How many actions differ from the source's, 0 where it is not at hand.
+fn against_source(program: &str, listed: &[Listed]) -> u64 {
+    if program == "-" {
+        println!("the Rust source is not at hand: not compared");
+        return 0;
+    }
+    let differ = source::compare(program, listed).unwrap_or_else(|error| {
+        println!("the Rust source did not run: {error}");
+        1
+    });
+    println!("both lists of {} actions beside the Rust source's, {differ} differ", listed.len());
+    differ
+}
+
+/// Ends the program if the comparison cannot be trusted.
+fn test_self() {
+    let facts = [selftest::examples(), selftest::families(), selftest::source_lines()];
+    match facts.into_iter().collect::<Result<(), String>>().and_then(|()| selftest::planted()) {
+        Ok(seen) => println!("{seen} planted damages, all of them reported\n"),
+        Err(text) => {
+            println!("{text}");
+            std::process::exit(2);
+        }
+    }
+}
+
+fn main() {
+    let arguments: Vec<String> = std::env::args().skip(1).collect();
+    let after = |word: &str| arguments.iter().position(|argument| argument == word).map(|at| at + 1);
+    test_self();
+    let plant = after("plant").and_then(|at| arguments.get(at)?.parse().ok());
+    let mut check = Checker::new(plant, false);
+    let mut layers = Layers::new(2102);
+    let mut listed = Vec::new();
+    every_action(&mut check, if after("three").is_some() { 3 } else { 2 }, &mut listed);
+    every_matrix(&mut check);
+    sampled(&mut check, &mut layers, &mut listed);
+    deep(&mut check, &mut layers, &mut listed);
+    circuits(&mut check, &mut layers, &mut listed);
+    all_edges(&mut check, &mut layers, 20_000);
+    check.print_table();
+    let differ = check.differ + against_source(arguments.first().map_or("-", String::as_str), &listed);
+    println!("{} calls compared, {differ} differ", check.calls);
+    std::process::exit(i32::from(differ != 0));
+}

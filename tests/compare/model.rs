@@ -1,0 +1,97 @@
+//! The four calls again, plainly, from the scope paper: the questions in their order, then the answer.
+use crate::minimal::minimal_list;
+use crate::words::{mask, pairing, product, symplectic};
+
+/// The listed words and the looks (0 where the call has none), or the refusal.
+pub type Reply = Result<(Vec<u64>, u64), u64>;
+
+fn ask(passes: bool, number: u64) -> Result<(), u64> {
+    if passes {
+        Ok(())
+    } else {
+        Err(number)
+    }
+}
+
+/// Questions 1 and 2: n as a width, and exactly 2n rows.
+fn width(n: u64, rows: usize) -> Result<usize, u64> {
+    ask(n <= 32, 1)?;
+    ask(rows as u64 == 2 * n, 2)?;
+    Ok(n as usize)
+}
+
+fn list_questions(n: u64, rows: &[u64]) -> Result<usize, u64> {
+    let n = width(n, rows.len())?;
+    ask(rows.iter().all(|row| row & !mask(n) == 0), 3)?;
+    ask(symplectic(n, rows), 4)?;
+    Ok(n)
+}
+
+pub fn minimal(n: u64, rows: &[u64], budget: u64, out: usize) -> Reply {
+    let n = list_questions(n, rows)?;
+    ask(out > 2 * n, 5)?;
+    minimal_list(n, rows, budget)
+}
+
+pub fn greedy(n: u64, rows: &[u64], out: usize) -> Reply {
+    let n = list_questions(n, rows)?;
+    ask(out >= 4 * n + 2, 5)?;
+    let mut action = rows.to_vec();
+    let mut record = Vec::new();
+    while let Some(v) = next_turn(n, &action) {
+        crate::words::turn(n, &mut action, v);
+        record.push(v);
+    }
+    record.reverse();
+    Ok((record, 0))
+}
+
+/// The greedy choice from I + F, or none where it is zero.
+fn next_turn(n: usize, action: &[u64]) -> Option<u64> {
+    let unit = |k: usize| 1u64 << k;
+    let row = |k: usize| action[k] ^ unit(k);
+    if let Some(k) = (0..2 * n).find(|&k| pairing(n, row(k), unit(k))) {
+        return Some(row(k));
+    }
+    for i in 0..2 * n {
+        for j in i + 1..2 * n {
+            if pairing(n, row(i), unit(j)) != pairing(n, row(j), unit(i)) {
+                return Some(row(i) ^ row(j));
+            }
+        }
+    }
+    (0..2 * n).map(row).find(|&v| v != 0)
+}
+
+pub fn rebuild(n: u64, vectors: &[u64], out: usize) -> Reply {
+    let n = width(n, out)?;
+    ask(vectors.iter().all(|v| v & !mask(n) == 0), 8)?;
+    Ok((product(n, vectors), 0))
+}
+
+pub fn gates(n: u64, bytes: &[u8], out: usize) -> Reply {
+    let n = width(n, out)?;
+    let mut turns = Vec::new();
+    for gate in bytes.chunks_exact(3) {
+        turns.extend(gate_turns(n, gate[0], gate[1] as usize, gate[2] as usize)?);
+    }
+    Ok((product(n, &turns), 0))
+}
+
+fn gate_turns(n: usize, gate: u8, a: usize, b: usize) -> Result<Vec<u64>, u64> {
+    ask(gate <= 5, 9)?;
+    let two = gate >= 3;
+    ask(a < n && (!two || b < n), 10)?;
+    ask(!two || a != b, 11)?;
+    let x = |q: usize| 1u64 << q;
+    let z = |q: usize| 1u64 << (n + q);
+    let y = |q: usize| x(q) | z(q);
+    Ok(match gate {
+        0 => vec![y(a)],
+        1 => vec![z(a)],
+        2 => vec![x(a)],
+        3 => vec![z(a), z(a) | x(b), x(b)],
+        4 => vec![z(a), z(a) | z(b), z(b)],
+        _ => vec![x(a) | x(b), y(a) | y(b), z(a) | z(b)],
+    })
+}

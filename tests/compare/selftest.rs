@@ -1,0 +1,139 @@
+//! Before the comparison: damage of every kind is planted and must be reported, the families are what they say, and the model
+//! gives the scope paper's examples.
+use crate::check::Checker;
+use crate::layers::{hyperbolic, Family, Layers, FAMILIES};
+use crate::library::{Call, Lent, Question, Spoil};
+use crate::model::{gates, greedy, minimal};
+use crate::source::{agrees, Listed};
+use crate::words::{identity, symplectic, times};
+
+type Damage = Box<dyn Fn(&mut Lent, &mut u64)>;
+
+/// Damage of each kind; in place of input that a call does not have, a guard word is hit.
+fn damages() -> Vec<(&'static str, Damage)> {
+    vec![
+        ("number", Box::new(|_, number| *number ^= 1)),
+        ("first output word", Box::new(|lent, _| lent.out.content()[0] ^= 1)),
+        ("last output word", Box::new(|lent, _| *lent.out.content().last_mut().unwrap() ^= 1 << 40)),
+        ("count", Box::new(|lent, _| lent.count.content()[0] += 1)),
+        ("looks", Box::new(|lent, _| lent.looks.content()[0] -= 1)),
+        ("input word", Box::new(|lent, _| lent.words.all[8] ^= 2)),
+        ("input byte", Box::new(|lent, _| lent.bytes.all[64] ^= 2)),
+        ("word before the output", Box::new(|lent, _| lent.out.all[7] = 0)),
+        ("word after the output", Box::new(|lent, _| *lent.out.all.last_mut().unwrap() ^= 1)),
+        ("word before the input", Box::new(|lent, _| lent.words.all[0] ^= 1)),
+        ("byte after the gates", Box::new(|lent, _| *lent.bytes.all.last_mut().unwrap() ^= 1)),
+        ("word after the count", Box::new(|lent, _| lent.count.all[9] = 0)),
+        ("word before the looks", Box::new(|lent, _| lent.looks.all[7] = 0)),
+    ]
+}
+
+/// Answers and refusals of all four calls.
+fn questions() -> Vec<Question> {
+    let rows = [2, 1, 8, 4, 0x20, 0x10].map(|k: u64| k ^ 1);
+    let swap = [2, 1, 8, 4];
+    let hadamards = [4, 8, 1, 2];
+    let minimal = |rows: &[u64], budget, out| Question::of_words(Call::Minimal { budget }, 2, rows, out);
+    vec![
+        minimal(&hadamards, 2, 6),
+        minimal(&hadamards, 1, 6),
+        minimal(&swap, 0, 5),
+        minimal(&rows, 9, 5),
+        minimal(&swap, 9, 4),
+        Question::of_words(Call::Greedy, 2, &swap, 10),
+        Question::of_words(Call::Greedy, 2, &hadamards, 9),
+        Question::of_words(Call::Rebuild, 2, &[3, 0, 15], 4),
+        Question::of_words(Call::Rebuild, 2, &[3, 16], 4),
+        Question::of_gates(2, &[0, 1, 9, 5, 0, 1], 4),
+        Question::of_gates(2, &[0, 1, 9, 5, 1, 1], 4),
+    ]
+}
+
+/// How many reports one spoiled call gives.
+fn reports(question: &Question, spoil: Option<Spoil>) -> u64 {
+    let mut check = Checker::new(None, true);
+    check.call_spoiled("", question, spoil);
+    check.differ
+}
+
+/// The number of planted damages that were seen, or what went wrong.
+pub fn planted() -> Result<u64, String> {
+    let mut seen = 0;
+    for question in questions() {
+        if reports(&question, None) != 0 {
+            return Err(format!("{question:?} differs before any damage"));
+        }
+        for (what, damage) in damages() {
+            if reports(&question, Some(&damage)) != 1 {
+                return Err(format!("damage to the {what} was not seen: {question:?}"));
+            }
+            seen += 1;
+        }
+    }
+    Ok(seen)
+}
+
+/// Lines of the source that say something else than the library are seen to.
+pub fn source_lines() -> Result<(), String> {
+    let listed = Listed { n: 1, rows: vec![3, 1], minimal: vec![1, 2], greedy: vec![1, 2], looks: 2 };
+    let agree = |lines: [&str; 3]| agrees(&listed, &lines.map(String::from));
+    let wrong = [
+        ["min: 2 1", "greedy: 1 2", "visits: 2"],
+        ["min: 1 2", "greedy: 1 3", "visits: 2"],
+        ["min: 1 2 0", "greedy: 1 2", "visits: 2"],
+        ["min: 1 2", "greedy: 1 2", "visits: 3"],
+        ["", "", ""],
+    ];
+    if !agree(["min: 1 2", "greedy: 1 2", "visits: 2"]) || wrong.into_iter().any(agree) {
+        return Err("the source's lines are misread".to_string());
+    }
+    Ok(())
+}
+
+/// Every drawn action is symplectic, an involution squares to the identity, a hyperbolic one is.
+pub fn families() -> Result<(), String> {
+    let mut layers = Layers::new(1);
+    for n in 1..=32 {
+        for (family, name) in FAMILIES {
+            let rows = layers.action(family, n);
+            let square: Vec<u64> = rows.iter().map(|&row| times(row, &rows)).collect();
+            let fits = match family {
+                Family::Involution => square == identity(n),
+                Family::Hyperbolic => hyperbolic(n, &rows),
+                _ => true,
+            };
+            if !fits || !symplectic(n, &rows) {
+                return Err(format!("{name}, n = {n}: not of the family"));
+            }
+        }
+    }
+    Ok(())
+}
+
+/// The examples of the scope paper that have numbers and vectors, by the model.
+pub fn examples() -> Result<(), String> {
+    let action = |n: u64, bytes: &[u8]| gates(n, bytes, 2 * n as usize).unwrap_or_default().0;
+    let (h, hh) = (action(1, &[0, 0, 0]), action(2, &[0, 0, 0, 0, 1, 0]));
+    let (cx, swap) = (action(2, &[3, 0, 1]), action(2, &[5, 0, 1]));
+    let replies = [
+        (minimal(0, &[], 0, 1), Ok((vec![], 0))),
+        (minimal(2, &identity(2), 0, 5), Ok((vec![], 0))),
+        (minimal(1, &h, 1, 3), Ok((vec![0b11], 1))),
+        (minimal(1, &h, 0, 3), Err(6)),
+        (minimal(2, &hh, 2, 5), Ok((vec![0b0101, 0b1010], 2))),
+        (greedy(2, &hh, 10), Ok((vec![0b1010, 0b0101], 0))),
+        (minimal(2, &hh, 1, 5), Err(6)),
+        (minimal(2, &cx, 0, 5), Ok((vec![0b0100, 0b0110, 0b0010], 0))),
+        (greedy(2, &cx, 10), Ok((vec![0b0100, 0b0110, 0b0010], 0))),
+        (minimal(2, &swap, 0, 5), Ok((vec![0b1100, 0b1111, 0b0011], 0))),
+        (greedy(2, &swap, 10), Ok((vec![0b1100, 0b1111, 0b0011], 0))),
+        (minimal(1, &[2, 2], 9, 3), Err(4)),
+        (minimal(33, &[], 9, 0), Err(1)),
+        (minimal(2, &swap, 0, 4), Err(5)),
+        (gates(2, &[3, 1, 1], 4), Err(11)),
+    ];
+    match replies.iter().position(|(reply, wanted)| reply != wanted) {
+        Some(k) => Err(format!("the model's reply to example {k} is {:?}, not {:?}", replies[k].0, replies[k].1)),
+        None => Ok(()),
+    }
+}
