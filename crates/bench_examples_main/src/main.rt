@@ -21,8 +21,8 @@ fn print_rows(rows: &[u64]) {
 fn rebuild_empty(name: &[u8], n: u64) {
     let list = [0u64; 0];
     let mut out = [0u64; 64];
-    let a = replays::rebuild_answer(n, &list, &mut out);
-    print_answer(name, a);
+    let a = rebuild::rebuild(n, &list, &mut out);
+    print_answer(name, rebuild::tell(a));
     io::write_all(STDOUT_FILENO, b"\n");
 }
 
@@ -30,16 +30,16 @@ fn rebuild_empty(name: &[u8], n: u64) {
 fn greedy_identity(name: &[u8], out: &mut [u64]) {
     let list = [0u64; 0];
     let mut rows = [0u64; 64];
-    replays::rebuild_answer(32, &list, &mut rows);
-    let a = replays::greedy_answer(32, &rows, out);
-    print_answer(name, a);
+    rebuild::rebuild(32, &list, &mut rows);
+    let a = transvection::clifford_to_transvections(32, &rows, out);
+    print_answer(name, transvection::tell(a));
     io::write_all(STDOUT_FILENO, b"\n");
 }
 
 // A gate sequence on 2 qubits.
-fn gates(name: &[u8], bytes: &[u8]) {
+fn sequence(name: &[u8], bytes: &[u8]) {
     let mut out = [0u64; 4];
-    let a = replays::gates_answer(2, bytes, &mut out);
+    let a = gates::tell(gates::gate_action(2, bytes, &mut out));
     print_answer(name, a);
     if a.number == 0 {
         print_rows(&out);
@@ -49,7 +49,8 @@ fn gates(name: &[u8], bytes: &[u8]) {
 
 // The minimal list of an action on 2 qubits.
 fn minimal(name: &[u8], rows: &[u64], budget: u64, out: &mut [u64]) {
-    let a = replays::min_answer(2, rows, budget, out);
+    let least = transvection_exact::clifford_to_transvections_minimal(2, rows, budget, out);
+    let a = transvection_exact::tell(least);
     print_answer(name, a);
     io::write_all(STDOUT_FILENO, b" ");
     io::print_decimal(STDOUT_FILENO, a.looks);
@@ -81,9 +82,9 @@ fn main() {
     greedy_identity(b"greedy 32, 130 words", &mut enough);
     let mut short = [0u64; 129];
     greedy_identity(b"greedy 32, 129 words", &mut short);
-    gates(b"gates 2, SWAP 0 1", &[5, 0, 1]);
-    gates(b"gates 2, CX 1 1", &[3, 1, 1]);
-    gates(b"gates 2, SWAP 0 1 and 2 bytes more", &[5, 0, 1, 9, 9]);
-    gates(b"gates 2, 2 bytes", &[9, 9]);
+    sequence(b"gates 2, SWAP 0 1", &[5, 0, 1]);
+    sequence(b"gates 2, CX 1 1", &[3, 1, 1]);
+    sequence(b"gates 2, SWAP 0 1 and 2 bytes more", &[5, 0, 1, 9, 9]);
+    sequence(b"gates 2, 2 bytes", &[9, 9]);
     minimals();
 }

@@ -139,8 +139,8 @@ fn product_of(n: u64, b: Block) -> Action
 {
     let k = blocks::length_of(b);
     let mut a = symplectic::identity(n);
-    for i in 0..k {
-        a = symplectic::followed(a, b.rows[i]);
+    for t in 0..k {
+        a = symplectic::followed(a, b.rows[t]);
     }
     a
 }

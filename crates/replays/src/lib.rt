@@ -9,11 +9,6 @@ ghost use mathlib.Core.Path.{_≡_};
 ghost use mathlib.Core.Bool.{true};
 ghost use Prim.Native.Nat.{_≤_, _<_};
 ghost use lib.ListN.{length};
-ghost use Rattle.symplectic.specs.Replies.{toldOf};
-ghost use Rattle.rebuild.specs.Rebuilds.{rebuildReply};
-ghost use Rattle.transvection.specs.Greedy.{greedyReply};
-ghost use Rattle.transvection_exact.specs.Minimal.{minimalReply};
-ghost use Rattle.gates.specs.Sequences.{gatesReply};
 ghost use Rattle.replays.specs.Answers.{Alike, HasRoom};
 
 // What each output word holds before a call.
@@ -41,38 +36,6 @@ struct Case {
 
 // ---- the calls
 
-pub fn rebuild_answer(n: u64, list: &[u64], out: &mut [u64]) -> Told
-    ensures answered { λ a. ⌜ a ≡ toldOf (rebuildReply n (now (list .entry)) (now (out .entry))) ⌝ }
-    ensures left { λ a. ⌜ now (out .exit) ≡ rebuildReply n (now (list .entry)) (now (out .entry)) .words ⌝ }
-{
-    let r = rebuild::rebuild(n, list, out);
-    rebuild::tell(r)
-}
-
-pub fn greedy_answer(n: u64, rows: &[u64], out: &mut [u64]) -> Told
-    ensures answered { λ a. ⌜ a ≡ toldOf (greedyReply n (now (rows .entry)) (now (out .entry))) ⌝ }
-    ensures left { λ a. ⌜ now (out .exit) ≡ greedyReply n (now (rows .entry)) (now (out .entry)) .words ⌝ }
-{
-    let r = transvection::clifford_to_transvections(n, rows, out);
-    transvection::tell(r)
-}
-
-pub fn min_answer(n: u64, rows: &[u64], budget: u64, out: &mut [u64]) -> Told
-    ensures answered { λ a. ⌜ a ≡ toldOf (minimalReply n (now (rows .entry)) budget (now (out .entry))) ⌝ }
-    ensures left { λ a. ⌜ now (out .exit) ≡ minimalReply n (now (rows .entry)) budget (now (out .entry)) .words ⌝ }
-{
-    let r = transvection_exact::clifford_to_transvections_minimal(n, rows, budget, out);
-    transvection_exact::tell(r)
-}
-
-pub fn gates_answer(n: u64, bytes: &[u8], out: &mut [u64]) -> Told
-    ensures answered { λ a. ⌜ a ≡ toldOf (gatesReply n (now (bytes .entry)) (now (out .entry))) ⌝ }
-    ensures left { λ a. ⌜ now (out .exit) ≡ gatesReply n (now (bytes .entry)) (now (out .entry)) .words ⌝ }
-{
-    let r = gates::gate_action(n, bytes, out);
-    gates::tell(r)
-}
-
 // The low bytes of some words.
 fn bytes_of(words: &[u64]) -> [u8; 320]
     requires { ⌜ length (now words) ≤ 320 ⌝ }
@@ -90,7 +53,8 @@ fn gate_words(n: u64, words: &[u64], out: &mut [u64]) -> Told
     requires { ⌜ length (now words) ≤ 320 ⌝ }
 {
     let bytes = bytes_of(words);
-    gates_answer(n, &bytes[..words.len()], out)
+    let a = gates::gate_action(n, &bytes[..words.len()], out);
+    gates::tell(a)
 }
 
 fn known(kind: u64) -> bool
@@ -104,13 +68,16 @@ fn call(c: Case, lent: &[u64], out: &mut [u64]) -> Told
     requires { ⌜ length (now lent) ≤ 320 ⌝ }
 {
     if c.kind == MIN {
-        return min_answer(c.n, lent, c.budget, out);
+        let a = transvection_exact::clifford_to_transvections_minimal(c.n, lent, c.budget, out);
+        return transvection_exact::tell(a);
     }
     if c.kind == GREEDY {
-        return greedy_answer(c.n, lent, out);
+        let a = transvection::clifford_to_transvections(c.n, lent, out);
+        return transvection::tell(a);
     }
     if c.kind == REBUILD {
-        return rebuild_answer(c.n, lent, out);
+        let a = rebuild::rebuild(c.n, lent, out);
+        return rebuild::tell(a);
     }
     gate_words(c.n, lent, out)
 }

@@ -13,13 +13,16 @@ bytes-of-requires c κs = search needs
 array-share-prefix-bytes : tie.Need-array-share-prefix-bytes
 array-share-prefix-bytes c = search needs
 
-slice-aggregate-gates-answer : tie.Need-slice-aggregate-gates-answer
-slice-aggregate-gates-answer c =
+slice-aggregate-gate-action : tie.Need-slice-aggregate-gate-action
+slice-aggregate-gate-action c =
     let b = c .before in
     sym (length-take-le (length (b .before .before .before .args .words .now)) (b .bytes-of .result) (search needs))
 
-gates-answer-requires : tie.Need-gates-answer-requires
-gates-answer-requires c κs = search needs
+gate-action-requires : tie.Need-gate-action-requires
+gate-action-requires c κs = search needs
+
+tell-requires : tie.Need-tell-requires
+tell-requires c κs = search needs
 
 same-length : tie.Need-same-length
 same-length c = search needs
@@ -33,7 +36,8 @@ gate-words-spec =
     (tie.spec
     bytes-of-requires
     array-share-prefix-bytes
-    slice-aggregate-gates-answer
-    gates-answer-requires
+    slice-aggregate-gate-action
+    gate-action-requires
+    tell-requires
     same-length
     returns)

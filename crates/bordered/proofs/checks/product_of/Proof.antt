@@ -18,10 +18,10 @@ use Rattle.bordered.proofs.checks.product_of.Statement.{statement}
 use Rattle.bordered.proofs.checks.product_of.Tie as tie
 
 abbrev Inv-loop : tie.InvT-loop
-Inv-loop n b k a₀ i₀ a i = (i ≤ k) × (k ≤ 65) × (qubits a ≡ capped n) × (matrix a ≡ product (capped n) (take i (rowsOf b)))
+Inv-loop n b k a₀ t₀ a t = (t ≤ k) × (k ≤ 65) × (qubits a ≡ capped n) × (matrix a ≡ product (capped n) (take t (rowsOf b)))
 
 abbrev μ-loop : tie.MeasureT-loop
-μ-loop n b k a₀ i₀ a i = k - i
+μ-loop n b k a₀ t₀ a t = k - t
 
 length-of-requires : tie.Need-length-of-requires Inv-loop μ-loop
 length-of-requires c κs = search needs
@@ -43,8 +43,8 @@ element-copy-out-followed c = search needs
 followed-requires : tie.Need-followed-requires Inv-loop μ-loop
 followed-requires c κs = search needs
 
-add-i : tie.Need-add-i Inv-loop μ-loop
-add-i c = search needs
+add-t : tie.Need-add-t Inv-loop μ-loop
+add-t c = search needs
 
 loop-less : tie.Need-loop-less Inv-loop μ-loop
 loop-less c = search needs
@@ -55,21 +55,21 @@ loop-again c =
     let at = c .before .before .before .loop in
     let q = capped (s .n) in
     let vs = rowsOf (s .t2) in
-    let v = val (getD (s .t2 .rows) (at .i) blank) in
-    let h : at .i < length vs = omega (arith, c .before .before .before .before .before .length-of .ensures) in (
+    let v = val (getD (s .t2 .rows) (at .t) blank) in
+    let h : at .t < length vs = omega (arith, c .before .before .before .before .before .length-of .ensures) in (
       search needs,
       at .inv .1,
       c .followed .ensures .0 ∙ at .inv .2,
       c .followed .ensures .1 ∙ ap (λ (k : ℕ). followed k (matrix (at .a)) v) (at .inv .2)
-          ∙ ap₂ (λ (F : List ℕ) (v : ℕ). followed q F v) (at .inv .3) (rows-get (s .t2) (at .i) h)
-          ∙ sym (ap (λ (k : ℕ). product q (take k vs)) (add-one (at .i)) ∙ product-next q vs (at .i) h),
+          ∙ ap₂ (λ (F : List ℕ) (v : ℕ). followed q F v) (at .inv .3) (rows-get (s .t2) (at .t) h)
+          ∙ sym (ap (λ (k : ℕ). product q (take k vs)) (add-one (at .t)) ∙ product-next q vs (at .t) h),
     )
 
 returns : tie.Need-returns Inv-loop μ-loop
 returns c =
     let s = c .before .before .before .before .args in
     let at = c .before .loop in
-    (at .inv .2, at .inv .3 ∙ ap (product (capped (s .n))) (take-all (at .i) (rowsOf (s .t2)) (omega (arith, c .before .before .before .length-of .ensures))))
+    (at .inv .2, at .inv .3 ∙ ap (product (capped (s .n))) (take-all (at .t) (rowsOf (s .t2)) (omega (arith, c .before .before .before .length-of .ensures))))
 
 pub product-of-spec : {M : Type 1} → statement M
 product-of-spec =
@@ -83,7 +83,7 @@ product-of-spec =
     mul-followed
     element-copy-out-followed
     followed-requires
-    add-i
+    add-t
     loop-less
     loop-again
     returns)
