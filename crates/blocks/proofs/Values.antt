@@ -8,9 +8,9 @@ use native.Mathlib.Nat.{le-of-suc-le-suc, not-suc-le-zero}
 use native.Mathlib.Numerals.{add-one}
 use native.Mathlib.Omega.{arith}
 use lib.ListN.{getD, set, length, take, drop, length-map, length-set, length-append, length-take, length-drop, drop-of-length-le}
-use lib.Seq.{take-all, take-length, take-nil, take-at, take-suc, take-suc-set, set-at, drop-cons, getD-take, append-snoc, length-take-le}
-use lib.Dec.{ltb}
-use borrow.Author.Tests.{lt-ltb, le-ltb}
+use lib.Seq.{take-all, take-length, take-nil, take-at, take-suc, take-suc-set, set-at, drop-cons, getD-take, append-snoc, length-take-le, getD-set-same, getD-set-other}
+use lib.Dec.{eqb, ltb}
+use borrow.Author.Tests.{lt-ltb, eqb-true, eqb-false}
 use Rattle.binar.specs.declared.Row.{Row}
 use Rattle.binar.specs.Bits.{select}
 use Rattle.binar.specs.Rows.{val, blank}
@@ -135,14 +135,6 @@ pub exchanged-in : (i j : ℕ) (l : List ℕ) → i < length l → j < length l 
 unfolding exchanged
 exchanged-in i j l h g = ap₂ (λ (s t : Bool). select l (s && t) (set (set l i (getD l j 0)) j (getD l i 0))) (lt-ltb i (length l) h) (lt-ltb j (length l) g)
 
-pub exchanged-out : (i j : ℕ) (l : List ℕ) → length l ≤ i → exchanged i j l ≡ l
-unfolding exchanged
-exchanged-out i j l h = ap (λ (s : Bool). select l (s && ltb j (length l)) (set (set l i (getD l j 0)) j (getD l i 0))) (le-ltb i (length l) h)
-
-pub exchanged-out-r : (i j : ℕ) (l : List ℕ) → i < length l → length l ≤ j → exchanged i j l ≡ l
-unfolding exchanged
-exchanged-out-r i j l g h = ap₂ (λ (s t : Bool). select l (s && t) (set (set l i (getD l j 0)) j (getD l i 0))) (lt-ltb i (length l) g) (le-ltb j (length l) h)
-
 pub exchanged-length : (i j : ℕ) (l : List ℕ) → length (exchanged i j l) ≡ length l
 unfolding exchanged
 exchanged-length i j l = go (ltb i (length l) && ltb j (length l))
@@ -150,6 +142,20 @@ exchanged-length i j l = go (ltb i (length l) && ltb j (length l))
     go : (b : Bool) → length (select l b (set (set l i (getD l j 0)) j (getD l i 0))) ≡ length l
     go true = length-set (set l i (getD l j 0)) j (getD l i 0) ∙ length-set l i (getD l j 0)
     go false = refl
+
+-- the first of the two is then the other one
+pub exchanged-first : (i j : ℕ) (l : List ℕ) → i < length l → j < length l → getD (exchanged i j l) i 0 ≡ getD l j 0
+exchanged-first i j l h g = ap (λ (m : List ℕ). getD m i 0) (exchanged-in i j l h g) ∙ go (eqb i j) refl
+  where
+    long : i < length (set l i (getD l j 0))
+    long = omega (arith, length-set l i (getD l j 0))
+
+    go : (b : Bool) → eqb i j ≡ b → getD (set (set l i (getD l j 0)) j (getD l i 0)) i 0 ≡ getD l j 0
+    go true e =
+        let same = eqb-true i j e in
+        ap (λ (k : ℕ). getD (set (set l i (getD l j 0)) k (getD l i 0)) i 0) (sym same) ∙ getD-set-same (set l i (getD l j 0)) i (getD l i 0) 0 long
+        ∙ ap (λ (k : ℕ). getD l k 0) same
+    go false e = getD-set-other (set l i (getD l j 0)) j i (getD l i 0) 0 (eqb-false i j e) ∙ getD-set-same l i (getD l j 0) 0 h
 
 -- both rows written
 pub rows-exchange : (b : Block) (i j : ℕ) → i < length (rowsOf b) → j < length (rowsOf b)

@@ -4,10 +4,10 @@ use binar::Row;
 ghost use mathlib.Core.Path.{_≡_};
 ghost use mathlib.Core.List.{[], _∷_, _++_};
 ghost use Prim.Native.Nat.{_+_, _<_, min};
-ghost use lib.ListN.{getD, take, length};
+ghost use lib.ListN.{take, length};
 ghost use Rattle.binar.specs.Rows.{val, width};
 ghost use Rattle.blocks.specs.Blocks.{room, rowsOf};
-ghost use Rattle.blocks.specs.Matrices.{times as timesOf, matmul, units, exchanged};
+ghost use Rattle.blocks.specs.Matrices.{times as timesOf, matmul, units};
 ghost use Rattle.blocks.specs.Words.{rowsOfWords, laid};
 
 pub struct Block {
@@ -38,16 +38,6 @@ pub fn empty() -> Block
     }
 }
 
-pub fn get(b: Block, i: usize) -> Row
-    ensures { λ r. ⌜ val r ≡ getD (rowsOf b) i 0 ⌝ }
-{
-    if i < length_of(b) {
-        b.rows[i]
-    } else {
-        binar::zero()
-    }
-}
-
 // The row behind the others, where there is room.
 pub fn push(b: Block, v: Row) -> Block
     ensures { λ r. ⌜ rowsOf r ≡ take room (rowsOf b ++ (val v ∷ [])) ⌝ }
@@ -61,23 +51,6 @@ pub fn push(b: Block, v: Row) -> Block
     } else {
         b
     }
-}
-
-pub fn exchange(b: Block, i: usize, j: usize) -> Block
-    ensures { λ r. ⌜ rowsOf r ≡ exchanged i j (rowsOf b) ⌝ }
-{
-    let k = length_of(b);
-    if i < k {
-        if j < k {
-            let mut n = b;
-            let x = n.rows[i];
-            let y = n.rows[j];
-            n.rows[i] = y;
-            n.rows[j] = x;
-            return n;
-        }
-    }
-    b
 }
 
 pub fn identity(m: usize) -> Block

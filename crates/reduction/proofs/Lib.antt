@@ -10,3 +10,4 @@ pub mod Sweep
 pub mod TwoLists
 pub mod Loops
 pub mod Parts
+pub mod Crossed

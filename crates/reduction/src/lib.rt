@@ -14,8 +14,8 @@ ghost use Rattle.blocks.specs.Blocks.{rowsOf};
 ghost use Rattle.blocks.specs.Matrices.{dots as dotsOf};
 ghost use Rattle.symplectic.specs.Actions.{qubits, matrix};
 ghost use Rattle.symplectic.specs.Picks.{addBoth};
-ghost use Rattle.reduction.specs.Columns.{column as columnOf, columns, rank as rankOf, rowReduceWithTransform};
-ghost use Rattle.reduction.specs.Sweeps.{halves, halvesOf, swept as sweptOf};
+ghost use Rattle.reduction.specs.Columns.{columns, rank as rankOf, rowReduceWithTransform};
+ghost use Rattle.reduction.specs.Sweeps.{halves, halvesOf};
 ghost use Rattle.reduction.specs.Residue.{residue as residueOf, basis as basisOf, core as coreOf, timesTransposed};
 
 // Rows and transform rows in their final order: the first `rank` rows are the basis.
@@ -45,8 +45,9 @@ fn first_rows(b: Block, k: usize) -> Block
 
 // The first row from p on that has column c; the count where there is none.
 fn first_with(b: Block, c: usize, p: usize) -> usize
-    ensures { λ r. ⌜ ((i : ℕ) → p ≤ i → i < r → bitOf c (getD (rowsOf b) i 0) ≡ false)
-        × (r < length (rowsOf b) → (p ≤ r) × (bitOf c (getD (rowsOf b) r 0) ≡ true)) × (r ≤ length (rowsOf b)) ⌝ }
+    requires { ⌜ p ≤ length (rowsOf b) ⌝ }
+    ensures { λ r. ⌜ (p ≤ r) × (r ≤ length (rowsOf b)) × ((i : ℕ) → p ≤ i → i < r → bitOf c (getD (rowsOf b) i 0) ≡ false)
+        × (r < length (rowsOf b) → bitOf c (getD (rowsOf b) r 0) ≡ true) ⌝ }
 {
     let k = blocks::length_of(b);
     for i in p..k {
@@ -70,57 +71,43 @@ fn swept_row(u: Row, v: Row, pivot: bool, has: bool) -> Row
     u
 }
 
-// Row p added to every other row i for which row i of `test` has column c.
-fn swept(b: Block, test: Block, c: usize, p: usize) -> Block
-    requires { ⌜ length (rowsOf b) ≤ length (rowsOf test) ⌝ }
-    ensures { λ r. ⌜ rowsOf r ≡ sweptOf 0 _⊕_ (λ i. bitOf c (getD (rowsOf test) i 0)) p (length (rowsOf b)) (rowsOf b) ⌝ }
-{
-    let k = blocks::length_of(b);
-    let v = blocks::get(b, p);
-    let mut n = b;
-    for i in 0..k {
-        let has = binar::bit(test.rows[i], c);
-        let w = swept_row(n.rows[i], v, i == p, has);
-        n.rows[i] = w;
-    }
-    n
-}
-
-// One column: the first row that has it is exchanged up, then cleared from every other row.
-fn column(r: Reduction, c: usize) -> Reduction
-    requires { ⌜ (length (rowsOf (r .rows)) ≡ length (rowsOf (r .transform))) × (r .rank ≤ length (rowsOf (r .rows))) ⌝ }
-    ensures { λ s. ⌜ (length (rowsOf (s .rows)) ≡ length (rowsOf (s .transform))) × (s .rank ≤ length (rowsOf (s .rows)))
-        × (halvesOf s ≡ columnOf (0, 0) addBoth (λ a. bitOf c (a .0)) (halvesOf r)) ⌝ }
-{
-    let p = r.rank;
-    let j = first_with(r.rows, c, p);
-    if j < blocks::length_of(r.rows) {
-        let rows = blocks::exchange(r.rows, p, j);
-        let transform = blocks::exchange(r.transform, p, j);
-        return Reduction {
-            rows: swept(rows, rows, c, p),
-            transform: swept(transform, rows, c, p),
-            rank: p + 1,
-        };
-    }
-    r
-}
-
-// The first m columns, one after the other.
+// The first m columns, one after the other: the first row from p on that has the column is exchanged up, then cleared from every
+// other row, and the transform goes along.
 fn by_columns(m: usize, rows: Block, transform: Block) -> Reduction
     requires { ⌜ length (rowsOf rows) ≡ length (rowsOf transform) ⌝ }
     ensures { λ r. ⌜ (length (rowsOf (r .rows)) ≡ length (rowsOf (r .transform))) × (r .rank ≤ length (rowsOf (r .rows)))
         × (halvesOf r ≡ columns (0, 0) addBoth (λ c a. bitOf c (a .0)) m 0 (halves 0 (zip (rowsOf rows) (rowsOf transform)))) ⌝ }
 {
-    let mut r = Reduction {
-        rows: rows,
-        transform: transform,
-        rank: 0,
-    };
+    let k = blocks::length_of(rows);
+    let mut a = rows;
+    let mut t = transform;
+    let mut p: usize = 0;
     for c in 0..m {
-        r = column(r, c);
+        let j = first_with(a, c, p);
+        if j < k {
+            let x = a.rows[p];
+            let v = a.rows[j];
+            a.rows[p] = v;
+            a.rows[j] = x;
+            let y = t.rows[p];
+            let w = t.rows[j];
+            t.rows[p] = w;
+            t.rows[j] = y;
+            for i in 0..k {
+                let has = binar::bit(a.rows[i], c);
+                let row = swept_row(a.rows[i], v, i == p, has);
+                let beside = swept_row(t.rows[i], w, i == p, has);
+                a.rows[i] = row;
+                t.rows[i] = beside;
+            }
+            p += 1;
+        }
     }
-    r
+    Reduction {
+        rows: a,
+        transform: t,
+        rank: p,
+    }
 }
 
 // A row has a column for each of 64 transform rows: rows past the first 64 are left out.

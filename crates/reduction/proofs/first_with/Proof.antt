@@ -41,7 +41,7 @@ returns c =
     let at = c .before .before .before .before .loop in
     let s = c .before .before .before .before .before .before .args in
     let h : at .i < length (rowsOf (s .t1)) = omega (arith, c .before .before .before .before .before .length-of .ensures) in
-    (at .inv .2, λ l. (at .inv .0, ap (bit (s .c)) (sym (rows-get (s .t1) (at .i) h)) ∙ sym (c .before .bit .ensures) ∙ c .if1 .taken), omega arith)
+    (at .inv .0, omega arith, at .inv .2, λ l. ap (bit (s .c)) (sym (rows-get (s .t1) (at .i) h)) ∙ sym (c .before .bit .ensures) ∙ c .if1 .taken)
 
 add-i : tie.Need-add-i Inv-loop μ-loop
 add-i c = search needs
@@ -63,7 +63,7 @@ loop-again c =
 returns-2 : tie.Need-returns-2 Inv-loop μ-loop
 returns-2 c =
     let e = c .before .before .length-of .ensures in
-    (λ x a l. c .before .loop .inv .2 x a (omega arith), λ h. absurd (omega (arith, e)), omega (arith, e))
+    (omega (arith, e, c .before .before .before .pre), omega (arith, e), λ x a l. c .before .loop .inv .2 x a (omega arith), λ h. absurd (omega (arith, e)))
 
 pub first-with-spec : {M : Type 1} → statement M
 first-with-spec =

@@ -1,0 +1,45 @@
+-- A block whose rows p and j are written over each other, and one column less of a reduction.
+-- Assumes nothing.
+use mathlib.Core.Path.{_≡_, sym, ap, _∙_, subst}
+use mathlib.Core.List.{List, zip}
+use Prim.Native.Nat.{ℕ, _+_, _-_, _<_}
+use lib.ListN.{length, getD, set}
+use Rattle.binar.specs.Bits.{bit}
+use Rattle.binar.specs.Rows.{val, blank}
+use Rattle.blocks.specs.declared.Block.{Block}
+use Rattle.blocks.specs.Blocks.{rowsOf}
+use Rattle.blocks.specs.Matrices.{exchanged}
+use Rattle.blocks.proofs.Values.{rows-get, rows-exchange, exchanged-length, exchanged-first}
+use Rattle.symplectic.specs.Picks.{addBoth}
+use Rattle.reduction.specs.Columns.{Halves, column, columns}
+use Rattle.reduction.specs.Sweeps.{halves}
+use Rattle.reduction.proofs.Flat.{columns-next}
+
+-- a block with both rows written
+abbrev pub crossed : Block → ℕ → ℕ → Block
+crossed b p j = record { rows = set (set (b .rows) p (getD (b .rows) j blank)) j (getD (b .rows) p blank); count = b .count }
+
+module _ (b : Block) (p j : ℕ) (h : p < length (rowsOf b)) (g : j < length (rowsOf b)) where
+  pub crossed-is : rowsOf (crossed b p j) ≡ exchanged p j (rowsOf b)
+  unfolding rowsOf
+  crossed-is = rows-exchange b p j h g
+
+  pub crossed-length : length (rowsOf (crossed b p j)) ≡ length (rowsOf b)
+  crossed-length = ap length crossed-is ∙ exchanged-length p j (rowsOf b)
+
+  pub crossed-first : val (getD (b .rows) j blank) ≡ getD (rowsOf (crossed b p j)) p 0
+  crossed-first = rows-get b j g ∙ sym (ap (λ (l : List ℕ). getD l p 0) crossed-is ∙ exchanged-first p j (rowsOf b) h g)
+
+-- one column less is left
+pub fewer : (m c p q : ℕ) (R T R′ T′ : List ℕ) (all : Halves (ℕ × ℕ)) → c < m
+    → columns (0, 0) addBoth (λ i a. bit i (a .0)) (m - c) c (halves p (zip R T)) ≡ all
+    → halves q (zip R′ T′) ≡ column (0, 0) addBoth (λ a. bit c (a .0)) (halves p (zip R T))
+    → columns (0, 0) addBoth (λ i a. bit i (a .0)) (m - (c + 1)) (c + 1) (halves q (zip R′ T′)) ≡ all
+fewer m c p q R T R′ T′ all h e d =
+    ap (λ (x : Halves (ℕ × ℕ)). columns (0, 0) addBoth (λ i a. bit i (a .0)) (m - (c + 1)) (c + 1) x) d
+    ∙ sym (columns-next (0, 0) addBoth (λ i a. bit i (a .0)) m c (halves p (zip R T)) h) ∙ e
+
+-- what holds of values holds where they have come to stand
+pub carried : (P : Block → Block → ℕ → Type 0) (a t a′ t′ : Block) (p p′ : ℕ) → a′ ≡ a → t′ ≡ t → p′ ≡ p → P a t p → P a′ t′ p′
+carried P a t a′ t′ p p′ ea et ep h =
+    subst (λ (x : Block). P x t′ p′) (sym ea) (subst (λ (x : Block). P a x p′) (sym et) (subst (P a t) (sym ep) h))
