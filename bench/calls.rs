@@ -157,10 +157,10 @@ fn chosen(n: usize, rows: fn(usize, u64) -> Vec<u64>) -> (Vec<Layer>, usize) {
 }
 
 fn minimal_table(all: &[(&str, usize, Vec<Layer>, usize)]) {
-    println!("the minimal call; source: minimal_decomposition alone; signed: the source's call with phases and Pauli correction");
+    println!("the minimal call; source: minimal_decomposition alone; signed: the source's call with phases and Pauli correction; draws: the source's looks");
     println!(
-        "{:>13}{:>8}  {:<11}{:>9}{:>9}{:>10}{:>8}{:>9}{:>9}{:>12}{:>7}",
-        "ours / source", "worst", "layers", "ours", "source", "signed", "growth", "looks", "draws", "M looks/s", "spent"
+        "{:>13}{:>8}  {:<11}{:>9}{:>9}{:>10}{:>8}{:>9}{:>9}{:>12}{:>12}{:>7}",
+        "ours / source", "worst", "layers", "ours", "source", "signed", "growth", "looks", "draws", "M looks/s", "M draws/s", "spent"
     );
     let mut above: Option<(&str, f64)> = None;
     for (name, n, of, passed) in all {
@@ -170,9 +170,10 @@ fn minimal_table(all: &[(&str, usize, Vec<Layer>, usize)]) {
         let (line, micros) = common(name, *n, &clocks, before, known);
         let looks = of.iter().map(|l| l.looks).sum::<u64>() as f64 / of.len() as f64;
         let draws = of.iter().map(|l| l.draws).sum::<u64>() as f64 / of.len() as f64;
+        let rate = |count: f64, micros: f64| if count > 0.0 { format!("{:.1}", count / micros) } else { "-".into() };
+        let (rate, theirs) = (rate(looks, micros), rate(draws, mean(&clocks, 1)));
         let draws = if known { format!("{draws:.0}") } else { "-".into() };
-        let rate = if looks > 0.0 { format!("{:.1}", looks / micros) } else { "-".into() };
-        println!("{line}{looks:>9.0}{draws:>9}{rate:>12}{passed:>7}");
+        println!("{line}{looks:>9.0}{draws:>9}{rate:>12}{theirs:>12}{passed:>7}");
         above = Some((*name, micros));
     }
 }

@@ -6,6 +6,8 @@ use std::time::Instant;
 mod plain;
 mod tuned;
 
+const ROUNDS: usize = 12;
+
 extern "C" {
     fn search_core(core: *const u64, rows: usize, budget: u64) -> u64;
 }
@@ -26,25 +28,28 @@ fn dead(d: usize) -> Vec<u64> {
     (0..d).map(|i| [10u64, 4, 2, 1][i % 4] << (i / 4 * 4)).collect()
 }
 
-/// Repeats a search until so many looks are drawn; looks and seconds, the best of three.
-fn timed(search: &dyn Fn(&[u64], u64) -> u64, core: &[u64], wanted: u64) -> (u64, f64) {
-    let mut best = (0, f64::MAX);
-    for _ in 0..3 {
-        let start = Instant::now();
-        let mut total = 0;
-        while total < wanted {
-            total += search(core, wanted - total).max(1);
-        }
-        let seconds = start.elapsed().as_secs_f64();
-        if seconds < best.1 {
-            best = (total, seconds);
+/// A search: the looks that it draws on a core under a budget.
+type Search = fn(&[u64], u64) -> u64;
+
+/// Repeats a search until so many looks are drawn; millions of them a second.
+fn rate(search: Search, core: &[u64], wanted: u64) -> f64 {
+    let start = Instant::now();
+    let mut total = 0;
+    while total < wanted {
+        total += search(core, wanted - total).max(1);
+    }
+    total as f64 / start.elapsed().as_secs_f64() / 1e6
+}
+
+/// The best rate of each search; they take turns.
+fn rates(searches: [Search; 3], core: &[u64], wanted: u64) -> [f64; 3] {
+    let mut best = [0.0f64; 3];
+    for _ in 0..ROUNDS {
+        for (search, best) in searches.iter().zip(&mut best) {
+            *best = best.max(rate(*search, core, wanted));
         }
     }
     best
-}
-
-fn rate(of: (u64, f64)) -> f64 {
-    of.0 as f64 / of.1 / 1e6
 }
 
 /// The model's own rates, by the name of the case ("scan 32").
@@ -64,7 +69,7 @@ fn model_rates(model: &str) -> Vec<(String, f64)> {
 
 fn main() {
     let bin = std::env::args().nth(1).unwrap_or_default();
-    let cases = [("scan", 32usize, 400_000_000u64), ("scan", 64, 400_000_000), ("dead", 8, 20_000_000), ("dead", 16, 20_000_000), ("dead", 32, 20_000_000)];
+    let cases = [("scan", 32usize, 60_000_000u64), ("scan", 64, 60_000_000), ("dead", 8, 4_000_000), ("dead", 16, 4_000_000), ("dead", 32, 4_000_000)];
     let model = model_rates(&format!("{bin}/model"));
     println!("million looks a second; ours / plain is our time over that of the plain Rust");
     println!("{:<10}{:>8}{:>8}{:>8}{:>8}{:>14}{:>14}{:>15}", "search", "proved", "plain", "tuned", "model", "ours / plain", "ours / tuned", "plain / model");
@@ -72,8 +77,7 @@ fn main() {
         let core = if kind == "scan" { scan(d) } else { dead(d) };
         assert_eq!(proved(&core, 100_000), plain::looks(&core, 100_000));
         assert_eq!(proved(&core, 100_000), tuned::looks(&core, 100_000));
-        let ours = rate(timed(&proved, &core, wanted));
-        let (rust, best) = (rate(timed(&plain::looks, &core, wanted)), rate(timed(&tuned::looks, &core, wanted)));
+        let [ours, rust, best] = rates([proved, plain::looks, tuned::looks], &core, wanted);
         let name = format!("{kind} {d}");
         let theirs = model.iter().find(|m| m.0 == name).map(|m| m.1);
         println!(

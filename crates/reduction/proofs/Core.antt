@@ -1,8 +1,9 @@
 -- The residue of an action, its basis and transform, and the core: the basis spans what the action adds, and the core is the form of its residue.
 -- Assumes nothing.
-use mathlib.Core.Path.{_≡_, sym, ap, ap₂, _∙_, subst}
-use mathlib.Core.List.{List, _++_, map, map-map, map-append}
+use mathlib.Core.Path.{_≡_, refl, sym, ap, ap₂, _∙_, subst}
+use mathlib.Core.List.{List, [], _∷_, _++_, map, map-map, map-append}
 use Prim.Native.Nat.{ℕ, _+_, _*_, _/_, _%_, _^_, _≤_, _<_}
+use native.Mathlib.Nat.{suc-ne-zero}
 use lib.ListN.{length, length-map, take, drop}
 use lib.Seq.{take-at, drop-at}
 use Rattle.binar.specs.Bits.{bit, dot, _⊕_}
@@ -61,6 +62,14 @@ core-form n F p q = form-transposed (basis n F) (transform n F) p q
 pub core-length : (n : ℕ) (F : List ℕ) → length (core n F) ≡ length (basis n F)
 unfolding core
 core-length n F = transposed-length (basis n F) (transform n F)
+
+-- zero rank gives a core of no rows
+pub core-zero : (n : ℕ) (F : List ℕ) → length (basis n F) ≡ 0 → core n F ≡ []
+core-zero n F e = empty (core n F) (core-length n F ∙ e)
+  where
+    empty : (l : List ℕ) → length l ≡ 0 → l ≡ []
+    empty [] z = refl
+    empty (x ∷ xs) z = absurd (suc-ne-zero (length xs) z)
 
 -- ---- of an action of 2n rows
 

@@ -10,7 +10,7 @@ use Rattle.blocks.specs.Matrices.{All}
 use Rattle.linear.specs.Space.{Space, scale}
 use Rattle.linear.specs.Span.{InSpan}
 use Rattle.linear.specs.Maps.{Additive, Form}
-use Rattle.linear.proofs.Sums.{add-zero, cancel-right, swap4, scale-o, eq-of-sum}
+use Rattle.linear.proofs.Sums.{add-zero, cancel-right, swap4, scale-o}
 use Rattle.linear.proofs.Instances.{𝔹}
 use Rattle.linear.proofs.Exchange.{span-add, span-head, span-skip}
 use Rattle.linear.proofs.Maps.{map-o, map-scale, span-kernel}
@@ -121,11 +121,3 @@ module _ (S : Space) (F : Form S) where
       go : (out : Option Car) → Picked bs (Zeros bs) out → Picked bs (Even bs) (orElse out (firstUneven _⊕_ E bs))
       go none z = also (firstUneven _⊕_ E bs) z (two-picked bs z)
       go (some p) h = h
-
-  -- the two of it apart
-  pub pick-some : (bs : List Car) (p : Car) → pick _⊕_ E bs ≡ some p → (E p p ≡ true) × InSpan S bs p
-  pick-some bs p e = rw e at (picked bs)
-
-  -- on an alternating space the form is symmetric
-  pub even-symmetric : (bs : List Car) → Even bs → (x y : Car) → InSpan S bs x → InSpan S bs y → E x y ≡ E y x
-  even-symmetric bs a x y h k = eq-of-sum 𝔹 (E x y) (E y x) (sym (square x y (a x h) (a y k)) ∙ a (x ⊕ y) (span-add S bs x y h k))

@@ -2,27 +2,26 @@
 -- Assumes nothing.
 use mathlib.Core.Path.{_≡_, refl, sym, ap, _∙_, subst}
 use mathlib.Core.Bool.{Bool, true, false}
-use mathlib.Core.List.{List, [], _∷_, _++_, map, reverse, reverse-cons}
+use mathlib.Core.List.{List, [], _∷_, reverse, reverse-cons}
 use mathlib.Core.Option.{Option, none, some}
 use mathlib.Core.Logic.{⊎-elim}
 use Prim.Native.Nat.{ℕ, zero, suc, _+_, _*_, _/_, _%_, _^_, _≤_, _<_, zero-le, suc-le-suc}
 use native.Mathlib.Omega.{arith}
 use native.Mathlib.Nat.{le-refl, le-trans}
 use lib.Dec.{ltb}
-use lib.ListN.{length, length-append, length-reverse}
+use lib.ListN.{length, length-reverse}
 use borrow.Author.Tests.{ltb-true, ltb-false}
 use Rattle.binar.specs.Bits.{_⊻_, select, _⊕_}
 use Rattle.binar.proofs.Sums.{sum-assoc}
 use Rattle.blocks.specs.Matrices.{times, units, All}
 use Rattle.blocks.proofs.All.{All·append}
 use Rattle.blocks.proofs.Units.{units-length}
-use Rattle.linear.specs.Span.{Indep}
 use Rattle.linear.proofs.Instances.{𝕎}
 use Rattle.symplectic.specs.Turns.{pairing, turn, followed, followedBy, product}
 use Rattle.symplectic.proofs.Pairings.{𝕡, pairing-sum, pairing-comm, pair-over, nondegenerate}
-use Rattle.symplectic.proofs.Products.{followed-times, run-is-act, product-reverse}
-use Rattle.symplectic.proofs.Wall.{Residue, at-least}
-use Rattle.symplectic.proofs.Layers.{added, added-sum, added-lt, image-parts, residueMap, adds-of-product}
+use Rattle.symplectic.proofs.Products.{followed-times, product-reverse}
+use Rattle.symplectic.proofs.Wall.{Residue}
+use Rattle.symplectic.proofs.Layers.{added, added-sum, added-lt, image-parts, residueMap}
 use Rattle.transvection.specs.Greedy.{nextTransvection, recordNext, recorded, greedyList}
 use Rattle.transvection.proofs.Ranks.{Full, Flat, full-keeps, full-drops, flat-twice}
 use Rattle.transvection.proofs.Taken.{Taken, taken, units-taken, units-of-none, full-units}
@@ -148,13 +147,6 @@ module _ (n : ℕ) (F : List ℕ) (a : Action n F) where
   enough : 4 * n ≤ 4 * n + 2
   enough = omega arith
 
-  -- a beginning of the record has no more turns
-  pub record-room : (vs rest : List ℕ) → vs ++ rest ≡ recorded n (4 * n + 2) F → length vs ≤ 4 * n
-  record-room vs rest e =
-      let h = recorded-undoes (4 * n + 2) enough .1 in
-      let l : length vs + length rest ≡ length (recorded n (4 * n + 2) F) = sym (length-append vs rest) ∙ ap length e in
-      omega arith
-
   pub greedy-product : product n (greedyList n F) ≡ F
   unfolding greedyList
   greedy-product = product-reverse n F (recorded n (4 * n + 2) F) (recorded-undoes (4 * n + 2) enough .0)
@@ -177,9 +169,3 @@ module _ (n : ℕ) (F : List ℕ) (a : Action n F) where
       go false e =
           subst (λ m. m ≤ length zs + length zs) (sym (length-reverse (recorded n (4 * n + 2) F)))
           (recorded-ends (4 * n + 2) zs r (let l = ltb-false (n + n) (length zs) e in omega arith) .1)
-
-  -- at least the rank
-  pub greedy-at-least : (zs : List ℕ) → Indep 𝕎 (map (added n F) zs) → length zs ≤ length (greedyList n F)
-  greedy-at-least zs i =
-      at-least 𝕎 (𝕡 n) (residueMap n F (a .0) (a .2)) 𝕎 (λ z. z) (λ x y. refl) zs i (greedyList n F)
-      (λ z. sym (run-is-act n (greedyList n F) z) ∙ adds-of-product n F (greedyList n F) greedy-product z)

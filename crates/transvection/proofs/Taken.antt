@@ -121,10 +121,6 @@ module _ (n : ℕ) (F : List ℕ) (size : length F ≡ n + n) where
           let x = span-unmap 𝕎 (Prod 𝕎 𝕎) (beside n F) (beside-sum n F) (units (n + n)) p (h .1) in
           (x .0, sym (ap (λ a. a .1) (x .2)), inl (ap (λ a. pairing n (a .1) (a .0)) (x .2) ∙ h .0))
 
-  -- nothing taken: the identity
-  pub units-of-stop : nextTransvection n F ≡ none → F ≡ units (n + n)
-  units-of-stop e = units-of-none (subst (Taken n F) e taken)
-
   -- what is taken has 2n columns
   pub taken-lt : All (λ f. f < 2 ^ (n + n)) F → (v : ℕ) → nextTransvection n F ≡ some v → v < 2 ^ (n + n)
   taken-lt b v e = let t : Taken n F (some v) = subst (Taken n F) e taken in subst (λ x. x < 2 ^ (n + n)) (sym (t .1)) (added-lt n F b (t .0))

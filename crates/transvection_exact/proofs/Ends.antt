@@ -7,7 +7,7 @@ use Prim.Native.Nat.{ℕ, suc, _+_, _≤_, _<_}
 use native.Mathlib.Omega.{arith}
 use native.Mathlib.Nat.{le-trans}
 use lib.ListN.{length, take, drop}
-use lib.Seq.{take-at, drop-at}
+use lib.Seq.{take-at}
 use Rattle.blocks.specs.Words.{rowsOfWords, wordsOfRows}
 use Rattle.blocks.proofs.Values.{laid-fits}
 use Rattle.symplectic.specs.Replies.{Reply, refused, listed}
@@ -69,11 +69,6 @@ module _ (n : ℕ) (F : List ℕ) (asked budget looks : ℕ) (out : List ℕ) (r
     unfolding rowsOfWords
     taken-is = ap₂ take count-is words-are ∙ take-at (a .list) (drop (length (a .list)) out) (length (a .list)) refl
 
-    pub rest-is : drop (r .count) (r .words) ≡ drop (r .count) out
-    rest-is =
-        ap₂ drop count-is words-are ∙ drop-at (a .list) (drop (length (a .list)) out) (length (a .list)) refl
-        ∙ ap (λ k. drop k out) (sym count-is)
-
   refusal-left : (k l : ℕ) → r ≡ refused k l out → (r .words ≡ out) × (r .count ≡ 0)
   unfolding refused
   refusal-left k l e = (ap (λ (t : Reply). t .words) e, ap (λ (t : Reply). t .count) e)
@@ -101,9 +96,3 @@ module _ (n : ℕ) (F : List ℕ) (asked budget looks : ℕ) (out : List ℕ) (r
   of-spent (beyond a s e) z l = ap (λ (t : Reply). t .number) e
   of-spent (unbordered a s b e) z l = absurd (omega arith)
   of-spent (answered vs a s m h e) z l = absurd (omega arith)
-
-  pub small-of : Ends n F asked budget looks out r → r .number ≤ 7
-  small-of (early k a s e) = omega (arith, is-number (suc k) (r .number) 0 e refl)
-  small-of (beyond a s e) = omega (arith, is-number 6 (r .number) budget e refl)
-  small-of (unbordered a s b e) = omega (arith, is-number 7 (r .number) looks e refl)
-  small-of (answered vs a s m h e) = omega (arith, is-listed vs (r .number) e refl)

@@ -7,7 +7,7 @@ use mathlib.Core.Option.{Option, none, some}
 use Prim.Native.Nat.{ℕ, zero, suc, _+_, _^_, _≤_, _<_}
 use native.Mathlib.Omega.{arith}
 use lib.Dec.{leb, eqb}
-use lib.ListN.{length, take, drop}
+use lib.ListN.{length, take}
 use borrow.Author.Tests.{leb-true, leb-false}
 use Rattle.blocks.specs.Matrices.{times, All}
 use Rattle.blocks.specs.Words.{rowsOfWords}
@@ -22,7 +22,7 @@ use Rattle.bordered.proofs.Verified.{Passed, bordered-passed}
 use Rattle.transvection_exact.specs.Shortest.{NoneShorter}
 use Rattle.transvection_exact.specs.Minimal.{coreSearch, borderedReply, endedReply, searchedReply, minimalReply}
 use Rattle.transvection_exact.proofs.Least.{Least, least-of-search, found-shortest, bordered-shortest}
-use Rattle.transvection_exact.proofs.Ends.{Ends, early, beyond, unbordered, answered, Answer, answer, count-is, looks-are, taken-is, rest-is, left-of, spent-of, of-spent, small-of}
+use Rattle.transvection_exact.proofs.Ends.{Ends, early, beyond, unbordered, answered, Answer, answer, count-is, looks-are, taken-is, left-of, spent-of, of-spent}
 
 -- ---- the questions before the search have numbers up to 5
 
@@ -114,10 +114,6 @@ module _ (n : ℕ) (words : List ℕ) (budget : ℕ) (out : List ℕ) where
     pub answered-fits : All (λ v. v < 2 ^ (n + n)) (take (reply .count) (rowsOfWords (reply .words)))
     answered-fits = subst (All (λ v. v < 2 ^ (n + n))) (sym is-the-list) (the .shortest .fits)
 
-    -- the words past the list
-    pub answered-rest : drop (reply .count) (reply .words) ≡ drop (reply .count) out
-    answered-rest = rest-is n rows asked budget wanted out reply the
-
     pub answered-looks : reply .looks ≡ wanted
     answered-looks = looks-are n rows asked budget wanted out reply the
 
@@ -133,7 +129,3 @@ module _ (n : ℕ) (words : List ℕ) (budget : ℕ) (out : List ℕ) where
 
   pub spent-looks : reply .number ≡ 6 → reply .looks ≡ budget
   spent-looks z = spent-of n rows asked budget wanted out reply minimal-ends z .2
-
-  -- there is no other number
-  pub number-small : reply .number ≤ 7
-  number-small = small-of n rows asked budget wanted out reply minimal-ends

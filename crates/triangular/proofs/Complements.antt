@@ -12,10 +12,10 @@ use Rattle.blocks.proofs.Firsts.{First, first-later}
 use Rattle.blocks.specs.Matrices.{All}
 use Rattle.blocks.proofs.All.{All·map, All·to-map}
 use Rattle.linear.specs.Space.{scale}
-use Rattle.linear.specs.Span.{InSpan, Indep}
+use Rattle.linear.specs.Span.{InSpan}
 use Rattle.linear.specs.Maps.{Additive}
 use Rattle.linear.proofs.Sums.{add-zero, cancel-right, swap4, scale-xor, scale-o}
-use Rattle.linear.proofs.Exchange.{span-add, span-scale, span-skip, span-head, span-members, steinitz-indep}
+use Rattle.linear.proofs.Exchange.{span-skip, span-head, span-members}
 use Rattle.linear.proofs.Instances.{𝔹, 𝕎, scale-true}
 use Rattle.linear.proofs.Maps.{map-o, map-at, span-map}
 use Rattle.triangular.specs.Spaces.{dropOrKeep, complement}
@@ -72,18 +72,6 @@ module _ (f : ℕ → Bool) (f-add : Additive 𝕎 𝔹 f) where
           → suc (length bs) ≡ suc (length (dropOrKeep b m (map (past m) bs) (complement f bs)))
       go true g ih = ap suc (sym (length-map bs (past m)))
       go false g ih = ap suc (ih (at-plus-none x c m g ∙ e))
-
-  -- x and what is passed on span what was there, with as many members
-  pub complement-indep : (bs : List ℕ) → Indep 𝕎 bs → (x : ℕ) → f x ≡ true → InSpan 𝕎 bs x → Indep 𝕎 (complement f bs)
-  complement-indep bs i x e h =
-      steinitz-indep 𝕎 (x ∷ complement f bs) bs i (All·map spanned bs (span-members 𝕎 bs)) (complement-length bs x e h) .1
-    where
-      spanned : (b : ℕ) → InSpan 𝕎 bs b → InSpan 𝕎 (x ∷ complement f bs) b
-      spanned b k = (
-        f b,
-        complement-out bs (b ⊕ select 0 (f b) x) (at-plus-one b (f b) x e ∙ bxor-self (f b))
-            (span-add 𝕎 bs b (select 0 (f b) x) k (span-scale 𝕎 bs (f b) x h)),
-      )
 
 -- ---- by the first index
 
