@@ -20,7 +20,8 @@
  *     that length is 0 the pointer is not followed, and may be null. count and looks are never null.
  *   - What is lent for writing (out, count, looks) overlaps nothing else that is lent, and no other thread touches it
  *     during the call. What is lent for reading is not written during the call.
- *   - The thread has stack to spare: 512 KiB are enough for turnlist_minimal, 16 KiB for the others.
+ *   - The thread has stack to spare: 512 KiB are enough for turnlist_minimal, 16 KiB for the others. tests/stack/run
+ *     measures what they take.
  *
  * The calls keep nothing from one call to the next, so that threads may call at the same time. */
 #ifndef TURNLIST_H_INCLUDED

@@ -5,7 +5,7 @@ use mathlib.Core.List.{map, zip, zipWith}
 use Rattle.bench_examples.specs.Table.{Example, answer, table}
 use Rattle.binar.specs.Bits.{odd, bit, _⊕_, weight, dot}
 use Rattle.blocks.specs.Matrices.{times, units, dots}
-use Rattle.blocks.specs.Words.{rowsOfWords, wordsOfRows, laid}
+use Rattle.blocks.specs.Words.{rowsOfWords, wordOf, wordsOfRows, laid}
 use Rattle.symplectic.specs.Actions.{maxQubits}
 use Rattle.symplectic.specs.Picks.{firstOne, unevenWith, firstUneven, pick}
 use Rattle.symplectic.specs.Replies.{refused, listed, fitAll, sizeQuestion, countQuestion, actionQuestions, listQuestions}
@@ -25,5 +25,5 @@ use Rattle.lines.specs.Lines.{decimalIn, decimal, lettersFrom, letters, load, s
 use Rattle.printout.specs.Printout.{wordsOfBytes, entryAction, minLine, greedyLine, entryLines, printout}
 
 pub starred : map (λ (e : Example). answer (e .call)) table ≡ map (λ (e : Example). e .expected) table
-unfolding table answer zip zipWith odd bit _⊕_ weight dot times units dots rowsOfWords wordsOfRows laid maxQubits firstOne unevenWith firstUneven pick refused listed fitAll sizeQuestion countQuestion actionQuestions listQuestions xBits zBits pairing turn followed product pairAlike symplectic identityPlus columns reduced rank rowReduceWithTransform residue reduction basis transform timesTransposed core form draws search budgeted complement symmetricWith isAlternating unitLower validate verifiesBordered checkedList borderedList splitAt withPartner fromFirst symplecticSimplex peeled borderedFamily besideBasis firstNonzero nextTransvection recorded greedyList greedyReply coreSearch minimalReply readsTwo gateQuestions sequenceQuestions sequenceTurns gatesReply sheet gate turnVector littleEndian part number qubitCount entryCount entry partSize entryPasses entriesPass fileQuestions decimalIn decimal lettersFrom letters load spelled line fileLine wordsOfBytes entryAction minLine greedyLine entryLines printout
+unfolding table answer zip zipWith odd bit _⊕_ weight dot times units dots rowsOfWords wordOf wordsOfRows laid firstOne unevenWith firstUneven pick fitAll sizeQuestion countQuestion actionQuestions listQuestions xBits zBits pairing turn followed product pairAlike symplectic identityPlus columns reduced rank rowReduceWithTransform residue reduction basis transform timesTransposed core form draws search budgeted complement symmetricWith isAlternating unitLower validate verifiesBordered checkedList borderedList splitAt withPartner fromFirst symplecticSimplex peeled borderedFamily besideBasis firstNonzero nextTransvection recorded greedyList greedyReply coreSearch minimalReply readsTwo gateQuestions sequenceQuestions sequenceTurns gatesReply sheet gate turnVector littleEndian part number qubitCount entryCount entry partSize entryPasses entriesPass fileQuestions decimalIn decimal lettersFrom letters load spelled line fileLine wordsOfBytes entryAction minLine greedyLine entryLines printout
 starred = refl

@@ -1,8 +1,9 @@
 -- The starred bench examples of document 01, as one table of calls and expected answers. Expected values are literals.
--- In each call the lent output words hold 9 at entry, so that the words left unchanged can be seen.
+-- In each call the lent output words hold 9 at entry, so that the words left unchanged can be seen. The actions of H and CX are made
+-- from the gate sheet.
 -- Assumes nothing.
 use mathlib.Core.List.{List, [], _∷_}
-use Prim.Native.Nat.{ℕ}
+use Prim.Native.Nat.{ℕ, _+_}
 use lib.ListN.{replicate}
 use Rattle.symplectic.specs.Replies.{Reply}
 use Rattle.gates.specs.Sequences.{gatesReply}
@@ -24,18 +25,22 @@ pub data Call : Type 0 where
 -- a call's whole answer
 pub data Answer : Type 0 where
   -- number, count, looks, and the output words as the call leaves them
-  told : ℕ → ℕ → ℕ → List ℕ → Answer
+  replies : ℕ → ℕ → ℕ → List ℕ → Answer
   -- the bytes printed
   shown : List ℕ → Answer
 
-abbrev pub toldBy : Reply → Answer
-toldBy r = told (r .number) (r .count) (r .looks) (r .words)
+abbrev pub replied : Reply → Answer
+replied r = replies (r .figures .number) (r .figures .count) (r .figures .looks) (r .words)
 
 unfoldable pub answer : Call → Answer
-answer (minimal n rows budget lent) = toldBy (minimalReply n rows budget (replicate lent 9))
-answer (greedy n rows lent) = toldBy (greedyReply n rows (replicate lent 9))
-answer (gates n bytes lent) = toldBy (gatesReply n bytes (replicate lent 9))
+answer (minimal n rows budget lent) = replied (minimalReply n rows budget (replicate lent 9))
+answer (greedy n rows lent) = replied (greedyReply n rows (replicate lent 9))
+answer (gates n bytes lent) = replied (gatesReply n bytes (replicate lent 9))
 answer (job file) = shown (printout file)
+
+-- the rows of a gate sequence: gate, a, b for each gate
+abbrev pub played : ℕ → List ℕ → List ℕ
+played n bytes = gatesReply n bytes (replicate (n + n) 9) .words
 
 pub record Example : Type 0 where
   pub call : Call
@@ -48,31 +53,31 @@ c gives a = record { call = c; expected = a }
 unfoldable pub table : List Example
 table =
     -- n = 0: empty list, looks 0
-    (minimal 0 [] 0 1 gives told 0 0 0 (9 ∷ []))
-    ∷ (greedy 0 [] 2 gives told 0 0 0 (9 ∷ 9 ∷ []))
+    (minimal 0 [] 0 1 gives replies 0 0 0 (9 ∷ []))
+    ∷ (greedy 0 [] 2 gives replies 0 0 0 (9 ∷ 9 ∷ []))
     -- identity, n = 2, budget 0: empty
-    ∷ (minimal 2 (1 ∷ 2 ∷ 4 ∷ 8 ∷ []) 0 5 gives told 0 0 0 (9 ∷ 9 ∷ 9 ∷ 9 ∷ 9 ∷ []))
+    ∷ (minimal 2 (1 ∷ 2 ∷ 4 ∷ 8 ∷ []) 0 5 gives replies 0 0 0 (9 ∷ 9 ∷ 9 ∷ 9 ∷ 9 ∷ []))
     -- H, n = 1, budget 1: Y, looks 1; budget 0: 6, looks 0
-    ∷ (minimal 1 (2 ∷ 1 ∷ []) 1 3 gives told 0 1 1 (3 ∷ 9 ∷ 9 ∷ []))
-    ∷ (minimal 1 (2 ∷ 1 ∷ []) 0 3 gives told 6 0 0 (9 ∷ 9 ∷ 9 ∷ []))
+    ∷ (minimal 1 (played 1 (0 ∷ 0 ∷ 0 ∷ [])) 1 3 gives replies 0 1 1 (3 ∷ 9 ∷ 9 ∷ []))
+    ∷ (minimal 1 (played 1 (0 ∷ 0 ∷ 0 ∷ [])) 0 3 gives replies 6 0 0 (9 ∷ 9 ∷ 9 ∷ []))
     -- H on both of n = 2: minimal YI IY, looks 2; greedy IY YI; budget 1: 6, looks 1
-    ∷ (minimal 2 (4 ∷ 8 ∷ 1 ∷ 2 ∷ []) 2 5 gives told 0 2 2 (5 ∷ 10 ∷ 9 ∷ 9 ∷ 9 ∷ []))
-    ∷ (greedy 2 (4 ∷ 8 ∷ 1 ∷ 2 ∷ []) 10 gives told 0 2 0 (10 ∷ 5 ∷ 9 ∷ 9 ∷ 9 ∷ 9 ∷ 9 ∷ 9 ∷ 9 ∷ 9 ∷ []))
-    ∷ (minimal 2 (4 ∷ 8 ∷ 1 ∷ 2 ∷ []) 1 5 gives told 6 0 1 (9 ∷ 9 ∷ 9 ∷ 9 ∷ 9 ∷ []))
+    ∷ (minimal 2 (played 2 (0 ∷ 0 ∷ 0 ∷ 0 ∷ 1 ∷ 0 ∷ [])) 2 5 gives replies 0 2 2 (5 ∷ 10 ∷ 9 ∷ 9 ∷ 9 ∷ []))
+    ∷ (greedy 2 (played 2 (0 ∷ 0 ∷ 0 ∷ 0 ∷ 1 ∷ 0 ∷ [])) 10 gives replies 0 2 0 (10 ∷ 5 ∷ 9 ∷ 9 ∷ 9 ∷ 9 ∷ 9 ∷ 9 ∷ 9 ∷ 9 ∷ []))
+    ∷ (minimal 2 (played 2 (0 ∷ 0 ∷ 0 ∷ 0 ∷ 1 ∷ 0 ∷ [])) 1 5 gives replies 6 0 1 (9 ∷ 9 ∷ 9 ∷ 9 ∷ 9 ∷ []))
     -- CX 0 1, budget 0: ZI ZX IX, both lists
-    ∷ (minimal 2 (3 ∷ 2 ∷ 4 ∷ 12 ∷ []) 0 5 gives told 0 3 0 (4 ∷ 6 ∷ 2 ∷ 9 ∷ 9 ∷ []))
-    ∷ (greedy 2 (3 ∷ 2 ∷ 4 ∷ 12 ∷ []) 10 gives told 0 3 0 (4 ∷ 6 ∷ 2 ∷ 9 ∷ 9 ∷ 9 ∷ 9 ∷ 9 ∷ 9 ∷ 9 ∷ []))
+    ∷ (minimal 2 (played 2 (3 ∷ 0 ∷ 1 ∷ [])) 0 5 gives replies 0 3 0 (4 ∷ 6 ∷ 2 ∷ 9 ∷ 9 ∷ []))
+    ∷ (greedy 2 (played 2 (3 ∷ 0 ∷ 1 ∷ [])) 10 gives replies 0 3 0 (4 ∷ 6 ∷ 2 ∷ 9 ∷ 9 ∷ 9 ∷ 9 ∷ 9 ∷ 9 ∷ 9 ∷ []))
     -- SWAP: ZZ YY XX, both lists, and the printout of its job file
-    ∷ (minimal 2 (2 ∷ 1 ∷ 8 ∷ 4 ∷ []) 0 5 gives told 0 3 0 (12 ∷ 15 ∷ 3 ∷ 9 ∷ 9 ∷ []))
-    ∷ (greedy 2 (2 ∷ 1 ∷ 8 ∷ 4 ∷ []) 10 gives told 0 3 0 (12 ∷ 15 ∷ 3 ∷ 9 ∷ 9 ∷ 9 ∷ 9 ∷ 9 ∷ 9 ∷ 9 ∷ []))
+    ∷ (minimal 2 (played 2 (5 ∷ 0 ∷ 1 ∷ [])) 0 5 gives replies 0 3 0 (12 ∷ 15 ∷ 3 ∷ 9 ∷ 9 ∷ []))
+    ∷ (greedy 2 (played 2 (5 ∷ 0 ∷ 1 ∷ [])) 10 gives replies 0 3 0 (12 ∷ 15 ∷ 3 ∷ 9 ∷ 9 ∷ 9 ∷ 9 ∷ 9 ∷ 9 ∷ 9 ∷ []))
     -- 0 min 0 3 8 0 ZZ YY XX, then 0 greedy 0 3 8 0 ZZ YY XX
     ∷ (job (2 ∷ 0 ∷ 1 ∷ 0 ∷ 1 ∷ 0 ∷ 1 ∷ 0 ∷ 12 ∷ 0 ∷ 0 ∷ 0 ∷ 5 ∷ 0 ∷ 1 ∷ []) gives shown (48 ∷ 32 ∷ 109 ∷ 105 ∷ 110 ∷ 32 ∷ 48 ∷ 32 ∷ 51 ∷ 32 ∷ 56 ∷ 32 ∷ 48 ∷ 32 ∷ 90 ∷ 90 ∷ 32 ∷ 89 ∷ 89 ∷ 32 ∷ 88 ∷ 88 ∷ 10 ∷ 48 ∷ 32 ∷ 103 ∷ 114 ∷ 101 ∷ 101 ∷ 100 ∷ 121 ∷ 32 ∷ 48 ∷ 32 ∷ 51 ∷ 32 ∷ 56 ∷ 32 ∷ 48 ∷ 32 ∷ 90 ∷ 90 ∷ 32 ∷ 89 ∷ 89 ∷ 32 ∷ 88 ∷ 88 ∷ 10 ∷ []))
     -- n = 1, both rows Z: 4
-    ∷ (minimal 1 (2 ∷ 2 ∷ []) 1000000 3 gives told 4 0 0 (9 ∷ 9 ∷ 9 ∷ []))
-    ∷ (greedy 1 (2 ∷ 2 ∷ []) 6 gives told 4 0 0 (9 ∷ 9 ∷ 9 ∷ 9 ∷ 9 ∷ 9 ∷ []))
+    ∷ (minimal 1 (2 ∷ 2 ∷ []) 1000000 3 gives replies 4 0 0 (9 ∷ 9 ∷ 9 ∷ []))
+    ∷ (greedy 1 (2 ∷ 2 ∷ []) 6 gives replies 4 0 0 (9 ∷ 9 ∷ 9 ∷ 9 ∷ 9 ∷ 9 ∷ []))
     -- n = 33: 1
-    ∷ (minimal 33 [] 1000000 3 gives told 1 0 0 (9 ∷ 9 ∷ 9 ∷ []))
-    ∷ (greedy 33 [] 3 gives told 1 0 0 (9 ∷ 9 ∷ 9 ∷ []))
+    ∷ (minimal 33 [] 1000000 3 gives replies 1 0 0 (9 ∷ 9 ∷ 9 ∷ []))
+    ∷ (greedy 33 [] 3 gives replies 1 0 0 (9 ∷ 9 ∷ 9 ∷ []))
     -- CX 1 1, n = 2: 11
-    ∷ (gates 2 (3 ∷ 1 ∷ 1 ∷ []) 4 gives told 11 0 0 (9 ∷ 9 ∷ 9 ∷ 9 ∷ []))
+    ∷ (gates 2 (3 ∷ 1 ∷ 1 ∷ []) 4 gives replies 11 0 0 (9 ∷ 9 ∷ 9 ∷ 9 ∷ []))
     ∷ []

@@ -1,8 +1,8 @@
 // Runs bench examples of the calls that are not starred. A line says the call, its number and its count, and for gates the rows written; for minimal lists also the looks.
 use libc::STDOUT_FILENO;
-use symplectic::Told;
+use symplectic::Figures;
 
-fn print_answer(name: &[u8], a: Told) {
+fn print_answer(name: &[u8], a: Figures) {
     io::write_all(STDOUT_FILENO, name);
     io::write_all(STDOUT_FILENO, b": ");
     io::print_decimal(STDOUT_FILENO, a.number);
@@ -22,7 +22,7 @@ fn rebuild_empty(name: &[u8], n: u64) {
     let list = [0u64; 0];
     let mut out = [0u64; 64];
     let a = rebuild::rebuild(n, &list, &mut out);
-    print_answer(name, rebuild::tell(a));
+    print_answer(name, rebuild::figures_of(a));
     io::write_all(STDOUT_FILENO, b"\n");
 }
 
@@ -32,14 +32,14 @@ fn greedy_identity(name: &[u8], out: &mut [u64]) {
     let mut rows = [0u64; 64];
     rebuild::rebuild(32, &list, &mut rows);
     let a = transvection::clifford_to_transvections(32, &rows, out);
-    print_answer(name, transvection::tell(a));
+    print_answer(name, transvection::figures_of(a));
     io::write_all(STDOUT_FILENO, b"\n");
 }
 
 // A gate sequence on 2 qubits.
 fn sequence(name: &[u8], bytes: &[u8]) {
     let mut out = [0u64; 4];
-    let a = gates::tell(gates::gate_action(2, bytes, &mut out));
+    let a = gates::figures_of(gates::gate_action(2, bytes, &mut out));
     print_answer(name, a);
     if a.number == 0 {
         print_rows(&out);
@@ -50,7 +50,7 @@ fn sequence(name: &[u8], bytes: &[u8]) {
 // The minimal list of an action on 2 qubits.
 fn minimal(name: &[u8], rows: &[u64], budget: u64, out: &mut [u64]) {
     let least = transvection_exact::clifford_to_transvections_minimal(2, rows, budget, out);
-    let a = transvection_exact::tell(least);
+    let a = transvection_exact::figures_of(least);
     print_answer(name, a);
     io::write_all(STDOUT_FILENO, b" ");
     io::print_decimal(STDOUT_FILENO, a.looks);

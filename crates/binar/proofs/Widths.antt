@@ -9,11 +9,23 @@ use lib.Pow.{pow-mono, pow-add, low, ones-lt, ones-split}
 use lib.Dec.{ltb}
 use borrow.Author.Tests.{lt-ltb}
 use Rattle.binar.specs.Bits.{odd, bit}
-use Rattle.binar.specs.Rows.{width, val, blank, unit}
+use Rattle.binar.specs.Rows.{width, rowBound, val, unit}
+use Rattle.binar.specs.inner.Blank.{blank}
+use Rattle.binar.specs.declared.Row.{Row}
 
 pub val-blank : val blank ≡ 0
 unfolding val
 val-blank = refl
+
+-- a row's value is below the bound
+pub val-lt : (r : Row) → r .word < 2 ^ 64 → val r < rowBound
+unfolding val rowBound
+val-lt r h = h
+
+-- a row holds each value of no more columns than it has
+pub pow-bound : (k : ℕ) → k ≤ width → 2 ^ k ≤ rowBound
+unfolding rowBound
+pow-bound k h = pow-mono h
 
 module _ (a k : ℕ) (h : a < 2 ^ 64) (past : 64 ≤ k) where
   pub past-lt : a < 2 ^ k
@@ -39,7 +51,7 @@ past-up a k past =
     ∙ ap (λ t. t % 2 ^ 64) (sym (mul-assoc a (2 ^ (k - 64)) (2 ^ 64))) ∙ mul-mod-left (a * 2 ^ (k - 64)) (2 ^ 64)
 
 pub unit-past : (k : ℕ) → 64 ≤ k → unit k ≡ 0
-unfolding unit width
+unfolding unit rowBound
 unit-past k past = ap (λ t. t % 2 ^ 64) (sym (one-mul (2 ^ k))) ∙ past-up 1 k past
 
 pub past-ones : (k : ℕ) → 64 ≤ k → (2 ^ k - 1) % 2 ^ 64 ≡ 2 ^ 64 - 1

@@ -4,20 +4,20 @@ use Prim.Native.Nat.{ℕ, _%_, _^_}
 use lib.Count.{trailingZeros}
 use Rattle.binar.specs.declared.Row.{Row}
 
--- how many columns a row has
-unfoldable pub width : ℕ
+-- how many columns a row has: a plain number, open to users
+abbrev pub width : ℕ
 width = 64
+
+-- one more than the highest value of a row
+unfoldable pub rowBound : ℕ
+rowBound = 2 ^ width
 
 unfoldable pub val : Row → ℕ
 val r = r .word
 
--- what a read past the end of a list of rows gives
-abbrev pub blank : Row
-blank = record { word = 0 }
-
 -- row k of the identity; 0 from the width on
 unfoldable pub unit : ℕ → ℕ
-unit k = 2 ^ k % 2 ^ width
+unit k = 2 ^ k % rowBound
 
 -- the column of the lowest one; the width where there is none
 unfoldable pub lowest : ℕ → ℕ

@@ -4,7 +4,10 @@ ghost use mathlib.Core.Path.{_≡_};
 ghost use Prim.Native.Nat.{_+_, _-_, _*_, _/_, _%_, _^_, _<_};
 ghost use lib.Dec.{eqb, ltb};
 ghost use Rattle.binar.specs.Bits.{_⊕_, bit as bitOf, dot as dotOf, weight as weightOf};
-ghost use Rattle.binar.specs.Rows.{val, width, unit as unitOf, lowest as lowestOf};
+ghost use Rattle.binar.specs.Rows.{val, width, rowBound, unit as unitOf, lowest as lowestOf};
+
+// How many columns a row has.
+pub const WIDTH: usize = 64;
 
 pub struct Row {
     word: u64,
@@ -30,7 +33,7 @@ pub fn word_of(a: Row) -> u64
 }
 
 fn power(k: usize) -> u64
-    requires { ⌜ k < 64 ⌝ }
+    requires { ⌜ k < width ⌝ }
     ensures { λ r. ⌜ r ≡ 2 ^ k ⌝ }
 {
     1u64 << k
@@ -40,7 +43,7 @@ fn power(k: usize) -> u64
 pub fn unit(k: usize) -> Row
     ensures { λ r. ⌜ val r ≡ unitOf k ⌝ }
 {
-    if k < 64 {
+    if k < WIDTH {
         Row { word: power(k) }
     } else {
         Row { word: 0 }
@@ -77,7 +80,7 @@ pub fn bit(a: Row, k: usize) -> bool
     ensures { λ r. ⌜ r ≡ bitOf k (val a) ⌝ }
 {
     let w = a.word;
-    if k < 64 { (w >> k) % 2 == 1 } else { false }
+    if k < WIDTH { (w >> k) % 2 == 1 } else { false }
 }
 
 // The parity of the ones that two rows share.
@@ -100,7 +103,7 @@ pub fn fits(a: Row, m: usize) -> bool
     ensures { λ r. ⌜ r ≡ ltb (val a) (2 ^ m) ⌝ }
 {
     let w = a.word;
-    if m < 64 { w < power(m) } else { true }
+    if m < WIDTH { w < power(m) } else { true }
 }
 
 // The columns below k.
@@ -108,7 +111,7 @@ pub fn low(a: Row, k: usize) -> Row
     ensures { λ r. ⌜ val r ≡ val a % 2 ^ k ⌝ }
 {
     let w = a.word;
-    if k < 64 {
+    if k < WIDTH {
         Row { word: w % power(k) }
     } else {
         a
@@ -120,7 +123,7 @@ pub fn shift_down(a: Row, k: usize) -> Row
     ensures { λ r. ⌜ val r ≡ val a / 2 ^ k ⌝ }
 {
     let w = a.word;
-    if k < 64 {
+    if k < WIDTH {
         Row { word: w >> k }
     } else {
         Row { word: 0 }
@@ -129,10 +132,10 @@ pub fn shift_down(a: Row, k: usize) -> Row
 
 // Each column k higher.
 pub fn shift_up(a: Row, k: usize) -> Row
-    ensures { λ r. ⌜ val r ≡ val a * 2 ^ k % 2 ^ width ⌝ }
+    ensures { λ r. ⌜ val r ≡ val a * 2 ^ k % rowBound ⌝ }
 {
     let w = a.word;
-    if k < 64 {
+    if k < WIDTH {
         Row { word: w << k }
     } else {
         Row { word: 0 }
@@ -141,7 +144,7 @@ pub fn shift_up(a: Row, k: usize) -> Row
 
 // The row that follows in the order of values; the last one is followed by zero.
 pub fn next(a: Row) -> Row
-    ensures { λ r. ⌜ val r ≡ (val a + 1) % 2 ^ width ⌝ }
+    ensures { λ r. ⌜ val r ≡ (val a + 1) % rowBound ⌝ }
 {
     Row {
         word: std::num::wrapping_add_u64(a.word, 1),
@@ -150,9 +153,9 @@ pub fn next(a: Row) -> Row
 
 // Ones in the columns below k.
 pub fn low_ones(k: usize) -> Row
-    ensures { λ r. ⌜ val r ≡ (2 ^ k - 1) % 2 ^ width ⌝ }
+    ensures { λ r. ⌜ val r ≡ (2 ^ k - 1) % rowBound ⌝ }
 {
-    if k < 64 {
+    if k < WIDTH {
         Row { word: power(k) - 1 }
     } else {
         Row { word: u64::MAX }

@@ -2,7 +2,7 @@
 -- Assumes nothing.
 use mathlib.Core.Path.{_≡_, refl, sym, ap, ap₂, _∙_}
 use mathlib.Core.Bool.{Bool, true, false, _&&_}
-use mathlib.Core.List.{List, [], _∷_}
+use mathlib.Core.List.{List, [], _∷_, map}
 use Prim.Native.Nat.{ℕ, zero, suc, _+_, _*_, _/_, _%_, _^_, _≤_, _<_}
 use native.Mathlib.Nat.{pow-suc, mul-assoc, mul-div-cancel, mul-mod-left, zero-lt-suc, le-of-suc-le-suc, not-suc-le-zero, pos-of-ne-zero}
 use native.Mathlib.Omega.{arith}
@@ -11,8 +11,8 @@ use lib.Pow.{pow-pos, pow-mono}
 use borrow.Author.Tests.{ltb-true, ltb-false, eqb-false}
 use lib.ListN.{length, getD, length-map}
 use Rattle.binar.specs.Bits.{_⊻_, select, digit, odd, bit, _⊕_, dot}
-use Rattle.binar.specs.Rows.{width, lowest}
-use Rattle.binar.proofs.Digits.{digit-lt, odd-digit, half-digit, odd-sum, half-sum, bit-suc}
+use Rattle.binar.specs.Rows.{width, rowBound, lowest}
+use Rattle.binar.proofs.Digits.{digit-lt, odd-digit, half-digit, odd-zero, odd-one, odd-double, odd-sum, half-sum, bit-suc}
 use Rattle.binar.proofs.Sums.{bxor-comm, zero-sum, sum-zero, sum-self, sum-swap, sum-lt, by-parts, bit-zero-is-odd}
 use Rattle.binar.proofs.Dots.{dot-step, dot-comm, zero-dot, dot-zero, sum-dot}
 use Rattle.binar.proofs.Ones.{lowest-one, bit-le, sum-unit}
@@ -23,6 +23,14 @@ select-sum true true v = sym (sum-self v)
 select-sum true false v = sym (sum-zero v)
 select-sum false b v = sym (zero-sum (select 0 b v))
 
+pub times-nil : (c : ℕ) → times c [] ≡ 0
+unfolding times
+times-nil c = refl
+
+pub times-cons : (c v : ℕ) (M : List ℕ) → times c (v ∷ M) ≡ times (c / 2) M ⊕ select 0 (odd c) v
+unfolding times
+times-cons c v M = refl
+
 pub times-sum : (M : List ℕ) (a b : ℕ) → times (a ⊕ b) M ≡ times a M ⊕ times b M
 unfolding times
 times-sum [] a b = sym (zero-sum 0)
@@ -31,21 +39,21 @@ times-sum (v ∷ M) a b =
     ∙ sum-swap (times (a / 2) M) (times (b / 2) M) (select 0 (odd a) v) (select 0 (odd b) v)
 
 pub times-zero : (M : List ℕ) → times 0 M ≡ 0
-unfolding times odd
+unfolding times
 times-zero [] = refl
-times-zero (v ∷ M) = ap (λ t. t ⊕ 0) (times-zero M) ∙ zero-sum 0
+times-zero (v ∷ M) = ap₂ (λ t b. t ⊕ select 0 b v) (times-zero M) odd-zero ∙ zero-sum 0
 
 -- a row with its lowest column empty passes the first row of the matrix over
 pub times-double : (u v : ℕ) (M : List ℕ) → times (u * 2) (v ∷ M) ≡ times u M
-unfolding times odd
+unfolding times
 times-double u v M =
-    ap₂ (λ c b. times c M ⊕ select 0 b v) (mul-div-cancel u (zero-lt-suc 1)) (ap (λ t. eqb t 1) (mul-mod-left u 2))
+    ap₂ (λ c b. times c M ⊕ select 0 b v) (mul-div-cancel u (zero-lt-suc 1)) (odd-double u)
     ∙ sum-zero (times u M)
 
 pub times-unit : (i : ℕ) (M : List ℕ) → times (2 ^ i) M ≡ getD M i 0
-unfolding times odd
+unfolding times
 times-unit i [] = refl
-times-unit zero (v ∷ M) = ap (λ t. t ⊕ v) (times-zero M) ∙ zero-sum v
+times-unit zero (v ∷ M) = ap₂ (λ t b. t ⊕ select 0 b v) (times-zero M) odd-one ∙ zero-sum v
 times-unit (suc i) (v ∷ M) = ap (λ t. times t (v ∷ M)) (pow-suc 2 i) ∙ times-double (2 ^ i) v M ∙ times-unit i M
 
 pub times-high : (M : List ℕ) (h : ℕ) → times (h * 2 ^ length M) M ≡ 0
@@ -75,6 +83,14 @@ times-done M w c all z e = sym (ap (λ x. w ⊕ x) (ap (λ x. times x M) z ∙ t
 select-dot : (b : Bool) (v x : ℕ) → dot (select 0 b v) x ≡ b && dot v x
 select-dot true v x = refl
 select-dot false v x = zero-dot x
+
+pub dots-nil : (v : ℕ) → dots [] v ≡ 0
+unfolding dots
+dots-nil v = refl
+
+pub dots-cons : (x : ℕ) (M : List ℕ) (v : ℕ) → dots (x ∷ M) v ≡ dots M v * 2 + digit (dot v x)
+unfolding dots
+dots-cons x M v = refl
 
 pub dot-times : (M : List ℕ) (c x : ℕ) → dot (times c M) x ≡ dot c (dots M x)
 unfolding times dots
@@ -109,6 +125,10 @@ times-matmul [] B c = sym (times-zero B)
 times-matmul (a ∷ A) B c =
     ap₂ _⊕_ (times-matmul A B (c / 2)) (select-times (odd c) a B) ∙ sym (times-sum B (times (c / 2) A) (select 0 (odd c) a))
 
+pub matmul-is : (A B : List ℕ) → matmul A B ≡ map (λ a. times a B) A
+unfolding matmul
+matmul-is A B = refl
+
 pub matmul-length : (A B : List ℕ) → length (matmul A B) ≡ length A
 unfolding matmul
 matmul-length A B = length-map A (λ a. times a B)
@@ -132,7 +152,7 @@ power-below t k x h g = go (ltb t k) refl
     go false e = absurd (omega (arith, pow-mono (ltb-false t k e)))
 
 -- its column is inside the width and the rows of the matrix, and without it the row is less
-pub lowest-row : (k x : ℕ) → eqb x 0 ≡ false → x < 2 ^ width → x < 2 ^ k → (lowest x < width) × (lowest x < k) × (x ⊕ 2 ^ lowest x < x)
+pub lowest-row : (k x : ℕ) → eqb x 0 ≡ false → x < rowBound → x < 2 ^ k → (lowest x < width) × (lowest x < k) × (x ⊕ 2 ^ lowest x < x)
 lowest-row k x e h g =
     let t = lowest x in
     let o = lowest-one x (pos-of-ne-zero (eqb-false x 0 e)) h in

@@ -2,16 +2,24 @@
 -- Assumes nothing.
 use mathlib.Core.Path.{_≡_, refl, sym, ap, ap₂, _∙_, fun-ext}
 use mathlib.Core.List.{List, [], _∷_, _++_, map, map-map, map-append}
-use Prim.Native.Nat.{ℕ, zero, suc, _+_, _*_, _^_, _<_}
+use Prim.Native.Nat.{ℕ, zero, suc, _+_, _*_, _^_, _≤_, _<_}
 use native.Mathlib.Nat.{pow-suc, mul-one, one-mul, mul-assoc, zero-add, suc-add, le-of-suc-le-suc, not-suc-le-zero}
 use native.Mathlib.Omega.{arith}
 use lib.Pow.{pow-pos}
-use lib.ListN.{length, getD, length-map, List·getD-map}
+use lib.ListN.{length, getD, take, length-map, List·getD-map}
 use Rattle.binar.specs.Bits.{odd, _⊕_}
 use Rattle.binar.proofs.Sums.{zero-sum}
 use Rattle.blocks.specs.Matrices.{times, matmul, units, All}
 use Rattle.blocks.proofs.All.{All·map, All·to-map}
-use Rattle.blocks.proofs.Products.{times-zero, times-double}
+use Rattle.blocks.proofs.Products.{times-unit, times-double}
+
+pub units-zero : units 0 ≡ []
+unfolding units
+units-zero = refl
+
+pub units-suc : (m : ℕ) → units (suc m) ≡ 1 ∷ map (λ u. u * 2) (units m)
+unfolding units
+units-suc m = refl
 
 pub units-length : (m : ℕ) → length (units m) ≡ m
 unfolding units
@@ -48,12 +56,25 @@ unfolding units
 units-snoc m = units-split m 1 ∙ ap (λ t. units m ++ (t ∷ [])) (one-mul (2 ^ m))
 
 pub times-units : (M : List ℕ) → map (λ u. times u M) (units (length M)) ≡ M
-unfolding times units odd
+unfolding units
 times-units [] = refl
 times-units (v ∷ M) =
-    ap₂ _∷_ (ap (λ t. t ⊕ v) (times-zero M) ∙ zero-sum v)
+    ap₂ _∷_ (times-unit 0 (v ∷ M))
     (map-map (λ u. times u (v ∷ M)) (λ u. u * 2) (units (length M)) ∙ ap (λ f. map f (units (length M))) (fun-ext (λ u. times-double u v M)) ∙ times-units M)
 
 pub matmul-units : (M : List ℕ) → matmul (units (length M)) M ≡ M
 unfolding matmul
 matmul-units M = times-units M
+
+-- the first unit rows
+pub take-map : (f : ℕ → ℕ) (k : ℕ) (l : List ℕ) → take k (map f l) ≡ map f (take k l)
+take-map f zero l = refl
+take-map f (suc k) [] = refl
+take-map f (suc k) (x ∷ l) = ap (λ (m : List ℕ). f x ∷ m) (take-map f k l)
+
+pub take-units : (k m : ℕ) → k ≤ m → take k (units m) ≡ units k
+unfolding units
+take-units zero m h = refl
+take-units (suc k) zero h = absurd (not-suc-le-zero h)
+take-units (suc k) (suc m) h =
+    ap (λ (l : List ℕ). 1 ∷ l) (take-map (λ u. u * 2) k (units m) ∙ ap (map (λ u. u * 2)) (take-units k m (le-of-suc-le-suc h)))

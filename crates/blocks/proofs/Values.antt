@@ -3,22 +3,25 @@
 use mathlib.Core.Path.{_≡_, refl, sym, ap, ap₂, _∙_}
 use mathlib.Core.Bool.{Bool, true, false, _&&_}
 use mathlib.Core.List.{List, [], _∷_, _++_, map, append-nil}
-use Prim.Native.Nat.{ℕ, zero, suc, _+_, _≤_, _<_, min}
-use native.Mathlib.Nat.{le-of-suc-le-suc, not-suc-le-zero}
+use Prim.Native.Nat.{ℕ, zero, suc, _+_, _%_, _^_, _≤_, _<_, min}
+use native.Mathlib.Nat.{le-of-suc-le-suc, not-suc-le-zero, mod-eq-of-lt, lt-of-lt-of-le}
 use native.Mathlib.Numerals.{add-one}
 use native.Mathlib.Omega.{arith}
-use lib.ListN.{getD, set, length, take, drop, length-map, length-set, length-append, length-take, length-drop, drop-of-length-le}
+use lib.ListN.{getD, set, length, take, drop, replicate, length-map, length-set, length-append, length-take, length-drop, drop-of-length-le}
 use lib.Seq.{take-all, take-length, take-nil, take-at, take-suc, take-suc-set, set-at, drop-cons, getD-take, append-snoc, length-take-le, getD-set-same, getD-set-other}
 use lib.Dec.{eqb, ltb}
+use lib.Pow.{pow-mono}
 use borrow.Author.Tests.{lt-ltb, eqb-true, eqb-false}
 use Rattle.binar.specs.declared.Row.{Row}
 use Rattle.binar.specs.Bits.{select}
-use Rattle.binar.specs.Rows.{val, blank}
+use Rattle.binar.specs.Rows.{width, val}
+use Rattle.binar.specs.inner.Blank.{blank}
 use Rattle.binar.proofs.Widths.{val-blank}
 use Rattle.blocks.specs.declared.Block.{Block}
 use Rattle.blocks.specs.Blocks.{room, vals, rowsOf}
-use Rattle.blocks.specs.Matrices.{without, exchanged}
-use Rattle.blocks.specs.Words.{rowsOfWords, wordsOfRows, laid}
+use Rattle.blocks.specs.Matrices.{All}
+use Rattle.blocks.specs.inner.Lists.{without, exchanged}
+use Rattle.blocks.specs.Words.{rowsOfWords, wordOf, wordsOfRows, laid}
 
 -- ---- values
 
@@ -38,17 +41,26 @@ pub vals-length : (l : List Row) → length (vals l) ≡ length l
 unfolding vals
 vals-length l = length-map l val
 
+pub vals-replicate : (m : ℕ) (z : Row) → val z ≡ 0 → vals (replicate m z) ≡ replicate m 0
+unfolding vals
+vals-replicate zero z e = refl
+vals-replicate (suc m) z e = ap₂ _∷_ e (vals-replicate m z e)
+
 -- the length of an array of structs, from that of the list mapped to what stands for its elements
 pub unmapped : {X Y : Type 0} (f : X → Y) (l : List X) (n : ℕ) → length (map f l) ≡ n → length l ≡ n
 unmapped f l n p = sym (length-map l f) ∙ p
 
 -- ---- the rows of a block
 
-pub rows-length : (b : Block) → length (b .rows) ≡ 65 → length (rowsOf b) ≡ min (b .count) 65
+pub rows-are : (b : Block) → rowsOf b ≡ take (b .count) (vals (b .rows))
+unfolding rowsOf
+rows-are b = refl
+
+pub rows-length : (b : Block) → length (b .rows) ≡ room → length (rowsOf b) ≡ min (b .count) room
 unfolding rowsOf
 rows-length b h = length-take (b .count) (vals (b .rows)) ∙ ap (min (b .count)) (vals-length (b .rows) ∙ h)
 
-pub rows-fit : (b : Block) → length (b .rows) ≡ 65 → length (rowsOf b) ≤ 65
+pub rows-fit : (b : Block) → length (b .rows) ≡ room → length (rowsOf b) ≤ room
 rows-fit b h = omega (arith, rows-length b h)
 
 pub rows-get : (b : Block) (i : ℕ) → i < length (rowsOf b) → val (getD (b .rows) i blank) ≡ getD (rowsOf b) i 0
@@ -76,23 +88,21 @@ take-counted (suc n) [] = refl
 take-counted (suc n) (x ∷ l) = ap (λ (m : List ℕ). x ∷ m) (take-counted n l)
 
 -- one row more behind those that there are, and what there is no room for
-pub push-more : (b : Block) (k : ℕ) (v : Row) → length (b .rows) ≡ 65 → k ≡ length (rowsOf b) → k < 65 → take (k + 1) (vals (set (b .rows) k v)) ≡ take room (rowsOf b ++ (val v ∷ []))
-unfolding rowsOf room
+pub push-more : (b : Block) (k : ℕ) (v : Row) → length (b .rows) ≡ room → k ≡ length (rowsOf b) → k < room → take (k + 1) (vals (set (b .rows) k v)) ≡ take room (rowsOf b ++ (val v ∷ []))
+unfolding rowsOf
 push-more b k v long e h =
     let l = vals (b .rows) in
     let n = take (b .count) l in
     ap₂ take (add-one k) (vals-set (b .rows) k v)
     ∙ take-suc-set l k (val v) (omega (arith, vals-length (b .rows)))
     ∙ ap (λ (m : List ℕ). m ++ (val v ∷ [])) (ap (λ (j : ℕ). take j l) e ∙ take-counted (b .count) l)
-    ∙ sym (take-all 65 (n ++ (val v ∷ [])) (omega (arith, length-append n (val v ∷ []))))
+    ∙ sym (take-all room (n ++ (val v ∷ [])) (omega (arith, length-append n (val v ∷ []))))
 
-pub push-full : (b : Block) (v : Row) → length (rowsOf b) ≡ 65 → rowsOf b ≡ take room (rowsOf b ++ (val v ∷ []))
-unfolding room
-push-full b v e = sym (take-at (rowsOf b) (val v ∷ []) 65 e)
+pub push-full : (b : Block) (v : Row) → length (rowsOf b) ≡ room → rowsOf b ≡ take room (rowsOf b ++ (val v ∷ []))
+push-full b v e = sym (take-at (rowsOf b) (val v ∷ []) room e)
 
-pub push-fits : (l : List ℕ) (v : ℕ) → length l < 65 → take room (l ++ (v ∷ [])) ≡ l ++ (v ∷ [])
-unfolding room
-push-fits l v h = take-all 65 (l ++ (v ∷ [])) (omega (arith, length-append l (v ∷ [])))
+pub push-fits : (l : List ℕ) (v : ℕ) → length l < room → take room (l ++ (v ∷ [])) ≡ l ++ (v ∷ [])
+push-fits l v h = take-all room (l ++ (v ∷ [])) (omega (arith, length-append l (v ∷ [])))
 
 -- a row written behind the first i
 pub taken-next : (l : List Row) (i : ℕ) (v : Row) → i < length l → take (i + 1) (vals (set l i v)) ≡ take i (vals l) ++ (val v ∷ [])
@@ -114,20 +124,34 @@ map-get f (x ∷ l) (suc i) d e h = map-get f l i d e (le-of-suc-le-suc h)
 
 -- ---- a member taken out
 
--- the front of what is left is what is left of the front
-pub without-take : (i k : ℕ) (l : List ℕ) → i ≤ k → take k (without i l) ≡ without i (take (suc k) l)
+pub without-zero : {A : Type 0} (x : A) (l : List A) → without 0 (x ∷ l) ≡ l
 unfolding without
-without-take zero k [] h = take-nil k
-without-take zero k (x ∷ l) h = refl
-without-take (suc i) zero l h = absurd (not-suc-le-zero h)
-without-take (suc i) (suc k) [] h = refl
-without-take (suc i) (suc k) (x ∷ l) h = ap (λ (m : List ℕ). x ∷ m) (without-take i k l (le-of-suc-le-suc h))
+without-zero x l = refl
 
-pub take-without : (j : ℕ) (l : List ℕ) → take j (without j l) ≡ take j l
+pub without-suc : {A : Type 0} (i : ℕ) (x : A) (l : List A) → without (suc i) (x ∷ l) ≡ x ∷ without i l
 unfolding without
-take-without zero l = refl
-take-without (suc j) [] = refl
-take-without (suc j) (x ∷ l) = ap (λ (m : List ℕ). x ∷ m) (take-without j l)
+without-suc i x l = refl
+
+pub without-before : {A : Type 0} (i : ℕ) (l : List A) (n : ℕ) (d : A) → n < i → getD (without i l) n d ≡ getD l n d
+unfolding without
+without-before zero l n d h = absurd (not-suc-le-zero h)
+without-before (suc i) [] n d h = refl
+without-before (suc i) (x ∷ l) zero d h = refl
+without-before (suc i) (x ∷ l) (suc n) d h = without-before i l n d (le-of-suc-le-suc h)
+
+pub without-behind : {A : Type 0} (i : ℕ) (l : List A) (n : ℕ) (d : A) → i ≤ n → getD (without i l) n d ≡ getD l (suc n) d
+unfolding without
+without-behind zero [] n d h = refl
+without-behind zero (x ∷ l) n d h = refl
+without-behind (suc i) [] n d h = refl
+without-behind (suc i) (x ∷ l) zero d h = absurd (not-suc-le-zero h)
+without-behind (suc i) (x ∷ l) (suc n) d h = without-behind i l n d (le-of-suc-le-suc h)
+
+pub without-length : {A : Type 0} (i : ℕ) (l : List A) → i < length l → suc (length (without i l)) ≡ length l
+unfolding without
+without-length i [] h = absurd (not-suc-le-zero h)
+without-length zero (x ∷ l) h = refl
+without-length (suc i) (x ∷ l) h = ap suc (without-length i l (le-of-suc-le-suc h))
 
 -- ---- two members exchanged
 
@@ -168,16 +192,15 @@ rows-exchange b i j h g =
 
 -- ---- rows laid into words
 
-pub laid-fits : (rows out : List ℕ) → length (wordsOfRows rows) ≤ length out → laid rows out ≡ rows ++ drop (length rows) out
-unfolding laid wordsOfRows
-laid-fits rows out h =
-    take-all (length out) (rows ++ drop (length rows) out) (omega (arith, length-append rows (drop (length rows) out), length-drop (length rows) out))
+pub words-length : (n : ℕ) (rows : List ℕ) → length (wordsOfRows n rows) ≡ length rows
+unfolding wordsOfRows
+words-length n rows = length-map rows wordOf
 
-pub laid-length : (rows out : List ℕ) → length (laid rows out) ≡ length out
-unfolding laid wordsOfRows
-laid-length rows out =
-    length-take (length out) (rows ++ drop (length rows) out)
-    ∙ omega (arith, length-append rows (drop (length rows) out), length-drop (length rows) out)
+pub words-get : (n : ℕ) (rows : List ℕ) (i : ℕ) → getD (wordsOfRows n rows) i 0 ≡ wordOf (getD rows i 0)
+unfolding wordsOfRows wordOf
+words-get n [] i = refl
+words-get n (r ∷ rows) zero = refl
+words-get n (r ∷ rows) (suc i) = words-get n rows i
 
 -- one row more is laid
 pub laid-more : (m l : List ℕ) (i : ℕ) → i < length m → i < length l → set (take i m ++ drop i l) i (getD m i 0) ≡ take (i + 1) m ++ drop (i + 1) l
@@ -187,23 +210,67 @@ laid-more m l i hm hl =
     ∙ sym (append-snoc (take i m) (getD m i 0) (drop (suc i) l))
     ∙ ap₂ (λ (x y : List ℕ). x ++ y) (sym (ap (λ (k : ℕ). take k m) (add-one i) ∙ take-suc m i 0 hm)) (ap (λ (k : ℕ). drop k l) (sym (add-one i)))
 
+-- the word of one row more
+pub laid-next : (n : ℕ) (rows l x : List ℕ) (i w v : ℕ) → i < length rows → i < length l → x ≡ take i (wordsOfRows n rows) ++ drop i l → w ≡ wordOf v → v ≡ getD rows i 0
+    → set x i w ≡ take (i + 1) (wordsOfRows n rows) ++ drop (i + 1) l
+laid-next n rows l x i w v h g is e f =
+    ap₂ (λ (y : List ℕ) (u : ℕ). set y i u) is (e ∙ ap wordOf f ∙ sym (words-get n rows i))
+    ∙ laid-more (wordsOfRows n rows) l i (omega (arith, words-length n rows)) g
+
 -- as many rows laid as there are, or as there are words
-pub laid-end : (rows out : List ℕ) (k : ℕ) → k ≡ min (length rows) (length out) → take k rows ++ drop k out ≡ laid rows out
+pub laid-end : (n : ℕ) (rows out : List ℕ) (k : ℕ) → k ≡ min (length rows) (length out) → take k (wordsOfRows n rows) ++ drop k out ≡ laid n rows out
 unfolding laid wordsOfRows
-laid-end [] out zero e = sym (take-length out)
-laid-end [] out (suc k) e = absurd (omega arith)
-laid-end (r ∷ rows) [] zero e = refl
-laid-end (r ∷ rows) [] (suc k) e = absurd (omega arith)
-laid-end (r ∷ rows) (w ∷ out) zero e = absurd (omega arith)
-laid-end (r ∷ rows) (w ∷ out) (suc k) e = ap (λ (m : List ℕ). r ∷ m) (laid-end rows out k (omega arith))
+laid-end n [] out zero e = sym (take-length out)
+laid-end n [] out (suc k) e = absurd (omega arith)
+laid-end n (r ∷ rows) [] zero e = refl
+laid-end n (r ∷ rows) [] (suc k) e = absurd (omega arith)
+laid-end n (r ∷ rows) (w ∷ out) zero e = absurd (omega arith)
+laid-end n (r ∷ rows) (w ∷ out) (suc k) e = ap (λ (m : List ℕ). wordOf r ∷ m) (laid-end n rows out k (omega arith))
 
--- as many rows as were laid
-pub laid-front : (rows out : List ℕ) → length rows ≤ length out → take (length rows) (rowsOfWords (laid rows out)) ≡ rows
-unfolding rowsOfWords wordsOfRows
-laid-front rows out h = ap (take (length rows)) (laid-fits rows out h) ∙ take-at rows (drop (length rows) out) (length rows) refl
+pub laid-length : (n : ℕ) (rows out : List ℕ) → length (laid n rows out) ≡ length out
+unfolding laid
+laid-length n rows out =
+    let w = wordsOfRows n rows in
+    length-take (length out) (w ++ drop (length w) out) ∙ omega (arith, length-append w (drop (length w) out), length-drop (length w) out)
 
--- exactly as many words as rows: the words are the rows
-pub laid-whole : (rows out : List ℕ) → length rows ≡ length out → rowsOfWords (laid rows out) ≡ rows
-unfolding rowsOfWords wordsOfRows
-laid-whole rows out e =
-    laid-fits rows out (omega arith) ∙ ap (λ (l : List ℕ). rows ++ l) (drop-of-length-le out {i = length rows} (omega arith)) ∙ append-nil rows
+-- ---- rows of n qubits, for which a row has columns enough
+
+module _ (n : ℕ) (size : n + n ≤ width) where
+  -- they are their words
+  words-are : (rows : List ℕ) → All (λ v. v < 2 ^ (n + n)) rows → wordsOfRows n rows ≡ rows
+  unfolding wordsOfRows wordOf
+  words-are [] h = refl
+  words-are (r ∷ rows) h = ap₂ (λ (x : ℕ) (m : List ℕ). x ∷ m) (mod-eq-of-lt (lt-of-lt-of-le (h .0) (pow-mono size))) (words-are rows (h .1))
+
+  module _ (rows out : List ℕ) (fits : All (λ v. v < 2 ^ (n + n)) rows) where
+    laid-fits : length rows ≤ length out → laid n rows out ≡ rows ++ drop (length rows) out
+    unfolding laid
+    laid-fits h =
+        ap (λ (w : List ℕ). take (length out) (w ++ drop (length w) out)) (words-are rows fits)
+        ∙ take-all (length out) (rows ++ drop (length rows) out) (omega (arith, length-append rows (drop (length rows) out), length-drop (length rows) out))
+
+    -- as many rows as were laid
+    pub laid-front : length rows ≤ length out → take (length rows) (rowsOfWords n (laid n rows out)) ≡ rows
+    unfolding rowsOfWords
+    laid-front h = ap (take (length rows)) (laid-fits h) ∙ take-at rows (drop (length rows) out) (length rows) refl
+
+    -- exactly as many words as rows: the words are the rows
+    pub laid-whole : length rows ≡ length out → rowsOfWords n (laid n rows out) ≡ rows
+    unfolding rowsOfWords
+    laid-whole e =
+        laid-fits (omega arith) ∙ ap (λ (l : List ℕ). rows ++ l) (drop-of-length-le out {i = length rows} (omega arith)) ∙ append-nil rows
+
+-- ---- lent words as rows
+
+-- as many rows as words, each the word in its place
+pub rows-count : (n : ℕ) (ws : List ℕ) → length (rowsOfWords n ws) ≡ length ws
+unfolding rowsOfWords
+rows-count n ws = refl
+
+pub rows-word : (n : ℕ) (ws : List ℕ) (i : ℕ) → getD (rowsOfWords n ws) i 0 ≡ getD ws i 0
+unfolding rowsOfWords
+rows-word n ws i = refl
+
+pub rows-take : (n k : ℕ) (ws : List ℕ) → take k (rowsOfWords n ws) ≡ rowsOfWords n (take k ws)
+unfolding rowsOfWords
+rows-take n k ws = refl

@@ -7,8 +7,8 @@ use Rattle.binar.specs.declared.Row.{Row}
 use Rattle.binar.specs.Rows.{val}
 use Rattle.blocks.specs.declared.Block.{Block}
 
--- how many rows a block has room for: the vectors of a bordered family at 32 qubits
-unfoldable pub room : ℕ
+-- how many rows a block has room for: one more than a row has columns, as a bordered family may have. A plain number, open to users
+abbrev pub room : ℕ
 room = 65
 
 unfoldable pub vals : List Row → List ℕ

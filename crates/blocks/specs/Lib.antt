@@ -1,3 +1,4 @@
 pub mod Matrices
 pub mod Words
 pub mod Blocks
+pub mod inner

@@ -1,10 +1,7 @@
 -- Matrices as lists of rows, of any width: vector times matrix, the product of two, the identity.
 -- Assumes nothing.
-use mathlib.Core.Bool.{_&&_}
-use mathlib.Core.List.{List, [], _∷_, _++_, map}
+use mathlib.Core.List.{List, [], _∷_, map}
 use Prim.Native.Nat.{ℕ, zero, suc, _+_, _*_, _/_}
-use lib.Dec.{ltb}
-use lib.ListN.{length, getD, set, take, drop}
 use Rattle.binar.specs.Bits.{select, digit, odd, _⊕_, dot}
 
 -- the sum of the rows M_i over the ones i of c (the source's `right_multiply`)
@@ -25,14 +22,6 @@ units (suc m) = 1 ∷ map (λ u. u * 2) (units m)
 unfoldable pub dots : List ℕ → ℕ → ℕ
 dots [] v = 0
 dots (x ∷ M) v = dots M v * 2 + digit (dot v x)
-
--- a list with its member i taken out, the order kept
-unfoldable pub without : {A : Type 0} → ℕ → List A → List A
-without i l = take i l ++ drop (suc i) l
-
--- a list with its members i and j exchanged; the list itself where one of them is past its end
-unfoldable pub exchanged : ℕ → ℕ → List ℕ → List ℕ
-exchanged i j l = select l (ltb i (length l) && ltb j (length l)) (set (set l i (getD l j 0)) j (getD l i 0))
 
 -- every member of a list
 abbrev pub All : {A : Type 0} → (A → Type 0) → List A → Type 0

@@ -1,17 +1,21 @@
--- Lent words as rows, and rows laid into lent words. A row takes one word.
+-- Lent words as rows of n qubits, and rows laid into lent words. A row takes one word.
 -- Assumes nothing.
-use mathlib.Core.List.{List, _++_}
-use Prim.Native.Nat.{ℕ}
+use mathlib.Core.List.{List, _++_, map}
+use Prim.Native.Nat.{ℕ, _%_, _^_}
 use lib.ListN.{length, take, drop}
 
 -- the rows that lent words hold
-unfoldable pub rowsOfWords : List ℕ → List ℕ
-rowsOfWords ws = ws
+unfoldable pub rowsOfWords : ℕ → List ℕ → List ℕ
+rowsOfWords n ws = ws
+
+-- the word that a row takes: its lowest 64 columns, which are all that a row of a word has
+unfoldable pub wordOf : ℕ → ℕ
+wordOf v = v % 2 ^ 64
 
 -- the words that rows take
-unfoldable pub wordsOfRows : List ℕ → List ℕ
-wordsOfRows rows = rows
+unfoldable pub wordsOfRows : ℕ → List ℕ → List ℕ
+wordsOfRows n rows = map wordOf rows
 
 -- lent words once rows have been laid from their start: the other words are unchanged, and rows past the end are lost
-unfoldable pub laid : List ℕ → List ℕ → List ℕ
-laid rows out = take (length out) (wordsOfRows rows ++ drop (length (wordsOfRows rows)) out)
+unfoldable pub laid : ℕ → List ℕ → List ℕ → List ℕ
+laid n rows out = take (length out) (wordsOfRows n rows ++ drop (length (wordsOfRows n rows)) out)

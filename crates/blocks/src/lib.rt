@@ -1,6 +1,7 @@
-// Blocks of rows, by value: room for 65 rows, and a count.
+// Blocks of rows, by value: room for one row more than a row has columns, and a count.
 // In the source: the crate binar, whose bit matrices these stand for.
 use binar::Row;
+use binar::WIDTH;
 ghost use mathlib.Core.Path.{_≡_};
 ghost use mathlib.Core.List.{[], _∷_, _++_};
 ghost use Prim.Native.Nat.{_+_, _<_, min};
@@ -8,10 +9,13 @@ ghost use lib.ListN.{take, length};
 ghost use Rattle.binar.specs.Rows.{val, width};
 ghost use Rattle.blocks.specs.Blocks.{room, rowsOf};
 ghost use Rattle.blocks.specs.Matrices.{times as timesOf, matmul, units};
-ghost use Rattle.blocks.specs.Words.{rowsOfWords, laid};
+ghost use Rattle.blocks.specs.Words.{rowsOfWords, wordOf, laid};
+
+// How many rows a block has room for.
+pub const ROOM: usize = 65;
 
 pub struct Block {
-    pub rows: [Row; 65],
+    pub rows: [Row; ROOM],
     pub count: usize,
 }
 
@@ -25,7 +29,7 @@ pub fn lesser(m: usize, n: usize) -> usize
 pub fn length_of(b: Block) -> usize
     ensures { λ r. ⌜ r ≡ length (rowsOf b) ⌝ }
 {
-    lesser(b.count, 65)
+    lesser(b.count, ROOM)
 }
 
 pub fn empty() -> Block
@@ -33,7 +37,7 @@ pub fn empty() -> Block
 {
     let z = binar::zero();
     Block {
-        rows: [z; 65],
+        rows: [z; ROOM],
         count: 0,
     }
 }
@@ -43,7 +47,7 @@ pub fn push(b: Block, v: Row) -> Block
     ensures { λ r. ⌜ rowsOf r ≡ take room (rowsOf b ++ (val v ∷ [])) ⌝ }
 {
     let k = length_of(b);
-    if k < 65 {
+    if k < ROOM {
         let mut n = b;
         n.rows[k] = v;
         n.count = k + 1;
@@ -56,7 +60,7 @@ pub fn push(b: Block, v: Row) -> Block
 pub fn identity(m: usize) -> Block
     ensures { λ r. ⌜ rowsOf r ≡ units (min m width) ⌝ }
 {
-    let k = lesser(m, 64);
+    let k = lesser(m, WIDTH);
     let mut n = empty();
     for i in 0..k {
         n.rows[i] = binar::unit(i);
@@ -66,7 +70,7 @@ pub fn identity(m: usize) -> Block
 }
 
 // The sum of the rows that c has ones for.
-pub fn times(c: Row, b: Block) -> Row
+fn times(c: Row, b: Block) -> Row
     ensures { λ r. ⌜ val r ≡ timesOf (val c) (rowsOf b) ⌝ }
 {
     let k = length_of(b);
@@ -92,29 +96,29 @@ pub fn product(a: Block, b: Block) -> Block
     n
 }
 
-// The rows that lent words hold.
-pub fn load(words: &[u64]) -> Block
-    ensures { λ r. ⌜ rowsOf r ≡ take room (rowsOfWords (now (words .entry))) ⌝ }
+// The rows of n qubits that lent words hold.
+pub fn from_words(n: u64, words: &[u64]) -> Block
+    ensures { λ r. ⌜ rowsOf r ≡ take room (rowsOfWords n (now (words .entry))) ⌝ }
 {
-    let k = lesser(65, words.len());
-    let mut n = empty();
+    let k = lesser(ROOM, words.len());
+    let mut b = empty();
     for i in 0..k {
-        n.rows[i] = binar::of_word(words[i]);
+        b.rows[i] = binar::of_word(words[i]);
     }
-    n.count = k;
-    n
+    b.count = k;
+    b
 }
 
 // The word that a row takes.
 pub fn word(a: Row) -> u64
-    ensures { λ r. ⌜ r ≡ val a ⌝ }
+    ensures { λ r. ⌜ r ≡ wordOf (val a) ⌝ }
 {
     binar::word_of(a)
 }
 
-// Lays the rows into lent words.
-pub fn store(b: Block, out: &mut [u64])
-    ensures { λ r. ⌜ now (out .exit) ≡ laid (rowsOf b) (now (out .entry)) ⌝ }
+// Lays the rows, of n qubits, into lent words.
+pub fn store(n: u64, b: Block, out: &mut [u64])
+    ensures { λ r. ⌜ now (out .exit) ≡ laid n (rowsOf b) (now (out .entry)) ⌝ }
 {
     let k = lesser(length_of(b), out.len());
     for i in 0..k {

@@ -1,5 +1,5 @@
 pub mod Verified
-pub mod Marked
+pub mod Relation
 pub mod Onwards
 pub mod Verdicts
 pub mod Listed

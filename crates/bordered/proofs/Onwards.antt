@@ -9,7 +9,7 @@ use lib.ListN.{length, getD, drop, drop-of-length-le}
 use Rattle.symplectic.specs.Turns.{allOf}
 use Rattle.symplectic.proofs.FirstPicks.{drop-open}
 use Rattle.bordered.specs.Checks.{borderedForm, unitLower, sameRows}
-use Rattle.bordered.specs.Readings.{rowLower}
+use Rattle.bordered.specs.inner.Rows.{rowLower}
 
 -- ---- one test and those behind it
 

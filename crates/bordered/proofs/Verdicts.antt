@@ -12,8 +12,8 @@ use Rattle.symplectic.specs.Replies.{fitAll}
 use Rattle.reduction.specs.Columns.{rank}
 use Rattle.family.specs.declared.Family.{Family}
 use Rattle.family.specs.Readings.{listOf}
+use Rattle.family.proofs.Marked.{list-vectors, list-length}
 use Rattle.bordered.specs.Checks.{oddRelation, relationSum, unitLower, validate, sameRows, verifiesBordered}
-use Rattle.bordered.proofs.Marked.{listed-vectors, listed-length}
 
 -- ---- any tests
 
@@ -42,7 +42,7 @@ pub family-tests : (r : ℕ) (E : ℕ → ℕ → Bool) (f : Family)
 unfolding validate
 family-tests r E f =
     sym (ap₂ (λ ws k. chain (fitAll r ws ∷ eqb k (suc r) ∷ oddRelation (listOf f) ∷ unitLower E (listOf f) ∷ eqb (relationSum (listOf f)) 0 ∷ []) (eqb (rank r ws) r))
-    (listed-vectors f) (listed-length f))
+    (list-vectors f) (list-length f))
 
 pub list-tests : (n : ℕ) (F : List ℕ) (r : ℕ) (vs : List ℕ)
     → chain (eqb (length vs) (suc r) ∷ allOf (λ v. not (eqb v 0)) vs ∷ fitAll (n + n) vs ∷ []) (sameRows (product n vs) F) ≡ verifiesBordered n F r vs

@@ -1,2 +1,3 @@
 pub mod Checks
 pub mod Readings
+pub mod inner

@@ -10,25 +10,11 @@ ghost use lib.Dec.{eqb, leb};
 ghost use Rattle.binar.specs.Bits.{_⊻_, dot};
 ghost use Rattle.binar.specs.Rows.{val};
 ghost use Rattle.blocks.specs.Blocks.{rowsOf};
-ghost use Rattle.symplectic.specs.Turns.{allOf, product};
-ghost use Rattle.symplectic.specs.Actions.{capped, qubits, matrix};
-ghost use Rattle.symplectic.specs.Replies.{fitAll};
+ghost use Rattle.symplectic.specs.Turns.{allOf};
+ghost use Rattle.symplectic.specs.Actions.{qubits, matrix};
 ghost use Rattle.reduction.specs.Residue.{form};
 ghost use Rattle.family.specs.Readings.{listOf};
 ghost use Rattle.bordered.specs.Checks.{oddRelation, relationSum, unitLower, validate as validateOf, sameRows, verifiesBordered};
-
-// Whether each row has only columns below m.
-fn fit_all(m: usize, b: Block) -> bool
-    ensures { λ r. ⌜ r ≡ fitAll m (rowsOf b) ⌝ }
-{
-    let k = blocks::length_of(b);
-    for i in 0..k {
-        if !binar::fits(b.rows[i], m) {
-            return false;
-        }
-    }
-    true
-}
 
 fn none_zero(b: Block) -> bool
     ensures { λ r. ⌜ r ≡ allOf (λ (v : ℕ). not (eqb v 0)) (rowsOf b) ⌝ }
@@ -111,11 +97,11 @@ fn relation_sum(f: Family) -> Row
 }
 
 // Whether a family on a core of rank r is valid.
-pub fn validate(r: usize, core: Block, f: Family) -> bool
+pub(crate) fn validate(r: usize, core: Block, f: Family) -> bool
     ensures { λ x. ⌜ x ≡ validateOf r (form (rowsOf core)) (listOf f) ⌝ }
 {
     let vectors = f.vectors;
-    if !fit_all(r, vectors) {
+    if !symplectic::fit_all(r, vectors) {
         return false;
     }
     if !one_more(blocks::length_of(vectors), r) {
@@ -133,23 +119,11 @@ pub fn validate(r: usize, core: Block, f: Family) -> bool
     reduction::rank(r, vectors) == r
 }
 
-// The product of the rows of a block.
-fn product_of(n: u64, b: Block) -> Action
-    ensures { λ r. ⌜ (qubits r ≡ capped n) × (matrix r ≡ product (capped n) (rowsOf b)) ⌝ }
-{
-    let k = blocks::length_of(b);
-    let mut a = symplectic::identity(n);
-    for t in 0..k {
-        a = symplectic::followed(a, b.rows[t]);
-    }
-    a
-}
-
 fn same_rows(a: Action, b: Action) -> bool
     requires { ⌜ qubits a ≡ qubits b ⌝ }
     ensures { λ r. ⌜ r ≡ sameRows (matrix a) (matrix b) ⌝ }
 {
-    let n = symplectic::width(a);
+    let n = symplectic::qubits_of(a);
     let k = n + n;
     for i in 0..k {
         if !binar::equal(a.rows[i], b.rows[i]) {
@@ -160,7 +134,7 @@ fn same_rows(a: Action, b: Action) -> bool
 }
 
 // Whether the vectors of a bordered list are r + 1, none zero, none out of width, with the action for their product.
-pub fn verifies_bordered_decomposition(a: Action, r: usize, vectors: Block) -> bool
+pub(crate) fn verifies_bordered_decomposition(a: Action, r: usize, vectors: Block) -> bool
     ensures { λ x. ⌜ x ≡ verifiesBordered (qubits a) (matrix a) r (rowsOf vectors) ⌝ }
 {
     if !one_more(blocks::length_of(vectors), r) {
@@ -169,9 +143,9 @@ pub fn verifies_bordered_decomposition(a: Action, r: usize, vectors: Block) -> b
     if !none_zero(vectors) {
         return false;
     }
-    let n = symplectic::width(a);
-    if !fit_all(n + n, vectors) {
+    let n = symplectic::qubits_of(a);
+    if !symplectic::fit_all(n + n, vectors) {
         return false;
     }
-    same_rows(product_of(a.n, vectors), a)
+    same_rows(symplectic::product(a.n, vectors), a)
 }

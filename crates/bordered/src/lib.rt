@@ -1,51 +1,62 @@
 // The bordered list of an action, of r + 1 vectors, and the two checks that it passes.
 // In the source: transvection_exact.rs, `BorderedFamily::validate`, `bordered_decomposition`, `verifies_bordered_decomposition`.
-pub mod checks; // checks.rt: the check of a family, and that of its list
+mod checks; // checks.rt: the check of a family, and that of its list
 
 use blocks::Block;
+use family::Construction;
 use symplectic::Action;
 ghost use mathlib.Core.Path.{_≡_};
 ghost use mathlib.Core.Option.{none};
-ghost use Rattle.blocks.specs.Blocks.{rowsOf};
 ghost use Rattle.symplectic.specs.Actions.{qubits, matrix};
-ghost use Rattle.reduction.specs.Residue.{basis as basisOf, core as coreOf};
 ghost use Rattle.bordered.specs.Checks.{borderedList};
 ghost use Rattle.bordered.specs.Readings.{listedOf};
 
+// Whether the candidate passed both checks. A construction that was stuck counts as not passing.
+pub enum Candidate {
+    Passed,
+    Rejected,
+}
+
 // The list, where the candidate passed.
 pub struct Bordered {
-    pub passed: bool,
+    pub candidate: Candidate,
     pub list: Block,
 }
 
-fn failed() -> Bordered
+fn rejected() -> Bordered
     ensures { λ r. ⌜ listedOf r ≡ none ⌝ }
 {
     Bordered {
-        passed: false,
+        candidate: Candidate::Rejected,
         list: blocks::empty(),
     }
 }
 
-// Each vector of a valid family times the basis, where these are verified; the basis and the core are those of the action's residue.
-pub fn bordered_list(a: Action, basis: Block, core: Block) -> Bordered
-    ensures { λ r. ⌜ (rowsOf basis ≡ basisOf (qubits a) (matrix a) → rowsOf core ≡ coreOf (qubits a) (matrix a)
-        → listedOf r ≡ borderedList (qubits a) (matrix a)) ⌝ }
+// Each vector of a valid family of the action's core times the basis of its residue, where these are verified.
+pub fn bordered_list(a: Action) -> Bordered
+    ensures { λ r. ⌜ listedOf r ≡ borderedList (qubits a) (matrix a) ⌝ }
 {
+    let c = reduction::residue_core(a);
+    let basis = c.basis;
+    let core = c.core;
     let f = family::bordered_family(core);
-    if !f.made {
-        return failed();
+    let construction = f.construction;
+    match construction {
+        Construction::Stuck => {
+            return rejected();
+        }
+        Construction::Made => {}
     }
     let r = blocks::length_of(basis);
     if !checks::validate(r, core, f) {
-        return failed();
+        return rejected();
     }
     let list = blocks::product(f.vectors, basis);
     if !checks::verifies_bordered_decomposition(a, r, list) {
-        return failed();
+        return rejected();
     }
     Bordered {
-        passed: true,
+        candidate: Candidate::Passed,
         list: list,
     }
 }

@@ -10,7 +10,7 @@ ghost use Rattle.transvection.specs.Greedy.{greedyReply};
 ghost use Rattle.transvection_exact.specs.Minimal.{minimalReply};
 ghost use Rattle.transvection_exact.specs.Answers.{Shortest, Exact};
 ghost use Rattle.gates.specs.Sequences.{sequenceTurns, gatesReply};
-ghost use Rattle.cabi.specs.Lent.{given, toldBy};
+ghost use Rattle.cabi.specs.Lent.{lentNumber, readFigures};
 
 // The minimal list of an action, and the looks of its search.
 #[no_mangle]
@@ -22,16 +22,16 @@ pub extern "C" fn turnlist_minimal(
     count: &mut u64,
     looks: &mut u64,
 ) -> u64
-    ensures answered { λ r. ⌜ r ≡ minimalReply n (now (rows .entry)) budget (now (out .entry)) .number ⌝ }
+    ensures answered { λ r. ⌜ r ≡ minimalReply n (now (rows .entry)) budget (now (out .entry)) .figures .number ⌝ }
     ensures left { λ r. ⌜ now (out .exit) ≡ minimalReply n (now (rows .entry)) budget (now (out .entry)) .words ⌝ }
-    ensures counted { λ r. ⌜ now (count .exit) ≡ given r (minimalReply n (now (rows .entry)) budget (now (out .entry)) .count) (now (count .entry)) ⌝ }
-    ensures drawn { λ r. ⌜ now (looks .exit) ≡ given r (minimalReply n (now (rows .entry)) budget (now (out .entry)) .looks) (now (looks .entry)) ⌝ }
-    ensures replays { λ r. ⌜ Replays n (now (rows .entry)) (now (out .exit)) (toldBy budget r (now (count .exit)) (now (looks .exit))) ⌝ }
-    ensures shortest { λ r. ⌜ Shortest n (now (rows .entry)) (toldBy budget r (now (count .exit)) (now (looks .exit))) ⌝ }
-    ensures exact { λ r. ⌜ Exact n (now (rows .entry)) budget (now (out .entry)) (toldBy budget r (now (count .exit)) (now (looks .exit))) ⌝ }
+    ensures counted { λ r. ⌜ now (count .exit) ≡ lentNumber r (minimalReply n (now (rows .entry)) budget (now (out .entry)) .figures .count) (now (count .entry)) ⌝ }
+    ensures drawn { λ r. ⌜ now (looks .exit) ≡ lentNumber r (minimalReply n (now (rows .entry)) budget (now (out .entry)) .figures .looks) (now (looks .entry)) ⌝ }
+    ensures replays { λ r. ⌜ Replays n (now (rows .entry)) (now (out .exit)) (readFigures budget r (now (count .exit)) (now (looks .exit))) ⌝ }
+    ensures shortest { λ r. ⌜ Shortest n (now (rows .entry)) (readFigures budget r (now (count .exit)) (now (looks .exit))) ⌝ }
+    ensures exact { λ r. ⌜ Exact n (now (rows .entry)) budget (now (out .entry)) (readFigures budget r (now (count .exit)) (now (looks .exit))) ⌝ }
 {
     let answer = transvection_exact::clifford_to_transvections_minimal(n, rows, budget, out);
-    let least = transvection_exact::tell(answer);
+    let least = transvection_exact::figures_of(answer);
     if least.number == 0 {
         *count = least.count;
         *looks = least.looks;
@@ -42,14 +42,14 @@ pub extern "C" fn turnlist_minimal(
 // The greedy list of an action.
 #[no_mangle]
 pub extern "C" fn turnlist_greedy(n: u64, rows: &[u64], out: &mut [u64], count: &mut u64) -> u64
-    ensures answered { λ r. ⌜ r ≡ greedyReply n (now (rows .entry)) (now (out .entry)) .number ⌝ }
+    ensures answered { λ r. ⌜ r ≡ greedyReply n (now (rows .entry)) (now (out .entry)) .figures .number ⌝ }
     ensures left { λ r. ⌜ now (out .exit) ≡ greedyReply n (now (rows .entry)) (now (out .entry)) .words ⌝ }
-    ensures counted { λ r. ⌜ now (count .exit) ≡ given r (greedyReply n (now (rows .entry)) (now (out .entry)) .count) (now (count .entry)) ⌝ }
-    ensures replays { λ r. ⌜ Replays n (now (rows .entry)) (now (out .exit)) (toldBy 0 r (now (count .exit)) 0) ⌝ }
-    ensures few { λ r. ⌜ toldBy 0 r (now (count .exit)) 0 .count ≤ 4 * n ⌝ }
+    ensures counted { λ r. ⌜ now (count .exit) ≡ lentNumber r (greedyReply n (now (rows .entry)) (now (out .entry)) .figures .count) (now (count .entry)) ⌝ }
+    ensures replays { λ r. ⌜ Replays n (now (rows .entry)) (now (out .exit)) (readFigures 0 r (now (count .exit)) 0) ⌝ }
+    ensures few { λ r. ⌜ readFigures 0 r (now (count .exit)) 0 .count ≤ 4 * n ⌝ }
 {
     let answer = transvection::clifford_to_transvections(n, rows, out);
-    let greedy = transvection::tell(answer);
+    let greedy = transvection::figures_of(answer);
     if greedy.number == 0 {
         *count = greedy.count;
     }
@@ -59,13 +59,13 @@ pub extern "C" fn turnlist_greedy(n: u64, rows: &[u64], out: &mut [u64], count: 
 // The product of a list.
 #[no_mangle]
 pub extern "C" fn turnlist_rebuild(n: u64, vectors: &[u64], out: &mut [u64], count: &mut u64) -> u64
-    ensures answered { λ r. ⌜ r ≡ rebuildReply n (now (vectors .entry)) (now (out .entry)) .number ⌝ }
+    ensures answered { λ r. ⌜ r ≡ rebuildReply n (now (vectors .entry)) (now (out .entry)) .figures .number ⌝ }
     ensures left { λ r. ⌜ now (out .exit) ≡ rebuildReply n (now (vectors .entry)) (now (out .entry)) .words ⌝ }
-    ensures counted { λ r. ⌜ now (count .exit) ≡ given r (rebuildReply n (now (vectors .entry)) (now (out .entry)) .count) (now (count .entry)) ⌝ }
-    ensures replays { λ r. ⌜ Rebuilds n (rowsOfWords (now (vectors .entry))) (now (out .exit)) (toldBy 0 r (now (count .exit)) 0) ⌝ }
+    ensures counted { λ r. ⌜ now (count .exit) ≡ lentNumber r (rebuildReply n (now (vectors .entry)) (now (out .entry)) .figures .count) (now (count .entry)) ⌝ }
+    ensures replays { λ r. ⌜ Rebuilds n (rowsOfWords n (now (vectors .entry))) (now (out .exit)) (readFigures 0 r (now (count .exit)) 0) ⌝ }
 {
     let answer = rebuild::rebuild(n, vectors, out);
-    let product = rebuild::tell(answer);
+    let product = rebuild::figures_of(answer);
     if product.number == 0 {
         *count = product.count;
     }
@@ -75,13 +75,13 @@ pub extern "C" fn turnlist_rebuild(n: u64, vectors: &[u64], out: &mut [u64], cou
 // The action of a gate sequence, three bytes a gate.
 #[no_mangle]
 pub extern "C" fn turnlist_gates(n: u64, gates: &[u8], out: &mut [u64], count: &mut u64) -> u64
-    ensures answered { λ r. ⌜ r ≡ gatesReply n (now (gates .entry)) (now (out .entry)) .number ⌝ }
+    ensures answered { λ r. ⌜ r ≡ gatesReply n (now (gates .entry)) (now (out .entry)) .figures .number ⌝ }
     ensures left { λ r. ⌜ now (out .exit) ≡ gatesReply n (now (gates .entry)) (now (out .entry)) .words ⌝ }
-    ensures counted { λ r. ⌜ now (count .exit) ≡ given r (gatesReply n (now (gates .entry)) (now (out .entry)) .count) (now (count .entry)) ⌝ }
-    ensures replays { λ r. ⌜ Rebuilds n (sequenceTurns n (now (gates .entry))) (now (out .exit)) (toldBy 0 r (now (count .exit)) 0) ⌝ }
+    ensures counted { λ r. ⌜ now (count .exit) ≡ lentNumber r (gatesReply n (now (gates .entry)) (now (out .entry)) .figures .count) (now (count .entry)) ⌝ }
+    ensures replays { λ r. ⌜ Rebuilds n (sequenceTurns n (now (gates .entry))) (now (out .exit)) (readFigures 0 r (now (count .exit)) 0) ⌝ }
 {
     let answer = gates::gate_action(n, gates, out);
-    let action = gates::tell(answer);
+    let action = gates::figures_of(answer);
     if action.number == 0 {
         *count = action.count;
     }

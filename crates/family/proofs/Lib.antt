@@ -2,4 +2,5 @@ pub mod Members
 pub mod Others
 pub mod Simplices
 pub mod Peeling
-pub mod Sent
+pub mod Behind
+pub mod Marked

@@ -1,82 +1,59 @@
--- The members of a list but the first and one more, by their places; and a member taken apart from two others, with its form row.
+-- The members of a list but the first and one more, by their places; and a member cleared of two others, with its form row.
 -- Assumes nothing.
-use mathlib.Core.Path.{_≡_, refl, sym, ap, ap₂, _∙_}
+use mathlib.Core.Path.{_≡_, sym, ap, ap₂, _∙_}
 use mathlib.Core.Bool.{Bool}
-use mathlib.Core.List.{List, [], _∷_, map}
-use Prim.Native.Nat.{ℕ, zero, suc, _+_, _-_, _≤_, _<_}
-use native.Mathlib.Nat.{le-of-suc-le-suc, not-suc-le-zero}
+use mathlib.Core.List.{List, map}
+use Prim.Native.Nat.{ℕ, suc, _+_, _-_, _≤_, _<_}
 use native.Mathlib.Omega.{arith}
-use lib.ListN.{length, getD, take, drop, length-append, length-take, length-drop, length-map}
+use lib.ListN.{length, getD, drop, length-drop, length-map}
 use lib.Seq.{getD-drop}
 use Rattle.binar.specs.Bits.{select, _⊕_}
-use Rattle.blocks.specs.Matrices.{times, matmul, without}
+use Rattle.blocks.specs.Matrices.{times, matmul}
 use Rattle.blocks.proofs.Products.{times-sum}
+use Rattle.blocks.proofs.Values.{without-before, without-behind, without-length, map-get}
 use Rattle.linear.proofs.Instances.{𝕎}
 use Rattle.linear.proofs.Maps.{map-at}
 use Rattle.reduction.specs.Residue.{form}
 use Rattle.triangular.proofs.Cores.{row-times}
-use Rattle.family.specs.Family.{apart}
-use Rattle.family.specs.Readings.{othersOf}
+use Rattle.family.specs.Family.{clearedOfPair}
+use Rattle.family.specs.inner.Parts.{othersOf}
 
--- ---- a list with a member taken out, by its places
-
-without-before : (i : ℕ) (l : List ℕ) (n : ℕ) → n < i → getD (without i l) n 0 ≡ getD l n 0
-unfolding without
-without-before zero l n h = absurd (not-suc-le-zero h)
-without-before (suc i) [] n h = refl
-without-before (suc i) (x ∷ l) zero h = refl
-without-before (suc i) (x ∷ l) (suc n) h = without-before i l n (le-of-suc-le-suc h)
-
-without-behind : (i : ℕ) (l : List ℕ) (n : ℕ) → i ≤ n → getD (without i l) n 0 ≡ getD l (suc n) 0
-unfolding without
-without-behind zero [] n h = refl
-without-behind zero (x ∷ l) n h = refl
-without-behind (suc i) [] n h = refl
-without-behind (suc i) (x ∷ l) zero h = absurd (not-suc-le-zero h)
-without-behind (suc i) (x ∷ l) (suc n) h = without-behind i l n (le-of-suc-le-suc h)
+-- ---- by their places
 
 module _ (n j : ℕ) (B : List ℕ) where
   pub other-before : n + 1 < j → getD (othersOf j B) n 0 ≡ getD B (n + 1) 0
   unfolding othersOf
   other-before h =
       let e : 1 + n ≡ n + 1 = omega arith in
-      without-before (j - 1) (drop 1 B) n (omega arith) ∙ getD-drop 1 B n 0 ∙ ap (λ k. getD B k 0) e
+      without-before (j - 1) (drop 1 B) n 0 (omega arith) ∙ getD-drop 1 B n 0 ∙ ap (λ k. getD B k 0) e
 
   pub other-behind : 1 ≤ j → j ≤ n + 1 → getD (othersOf j B) n 0 ≡ getD B (n + 1 + 1) 0
   unfolding othersOf
   other-behind p h =
       let e : 1 + suc n ≡ n + 1 + 1 = omega arith in
-      without-behind (j - 1) (drop 1 B) n (omega arith) ∙ getD-drop 1 B (suc n) 0 ∙ ap (λ k. getD B k 0) e
+      without-behind (j - 1) (drop 1 B) n 0 (omega arith) ∙ getD-drop 1 B (suc n) 0 ∙ ap (λ k. getD B k 0) e
 
 pub others-length : (j : ℕ) (B : List ℕ) → 1 ≤ j → j < length B → length (othersOf j B) ≡ length B - 2
-unfolding othersOf without
-others-length j B p h =
-    let l = drop 1 B in
-    omega (arith, length-append (take (j - 1) l) (drop (suc (j - 1)) l), length-take (j - 1) l, length-drop (suc (j - 1)) l, length-drop 1 B)
+unfolding othersOf
+others-length j B p h = omega (arith, without-length (j - 1) (drop 1 B) (omega (arith, length-drop 1 B)), length-drop 1 B)
 
--- ---- taken apart
-
--- what each of the others comes to
-pub apart-at : (E : ℕ → ℕ → Bool) (f p : ℕ) (l : List ℕ) (n : ℕ) → n < length l → getD (map (apart E f p) l) n 0 ≡ apart E f p (getD l n 0)
-apart-at E f p [] n h = absurd (not-suc-le-zero h)
-apart-at E f p (x ∷ l) zero h = refl
-apart-at E f p (x ∷ l) (suc n) h = apart-at E f p l n (le-of-suc-le-suc h)
+-- ---- cleared of two
 
 -- its form row
-pub apart-row : (E : List ℕ) (y f p : ℕ) (a b : Bool) → times (y ⊕ select 0 a f ⊕ select 0 b p) E ≡ times y E ⊕ select 0 a (times f E) ⊕ select 0 b (times p E)
-apart-row E y f p a b =
+pub cleared-row : (E : List ℕ) (y f p : ℕ) (a b : Bool) → times (y ⊕ select 0 a f ⊕ select 0 b p) E ≡ times y E ⊕ select 0 a (times f E) ⊕ select 0 b (times p E)
+cleared-row E y f p a b =
     map-at 𝕎 𝕎 (λ x. times x E) (times-sum E) (y ⊕ select 0 a f) b p
     ∙ ap (λ x. x ⊕ select 0 b (times p E)) (map-at 𝕎 𝕎 (λ x. times x E) (times-sum E) y a f)
 
 -- ---- the remainder of a pair, member by member
 
--- the others, taken apart from the first and the j-th
+-- the others, cleared of the first and the j-th
 unfoldable pub pairRest : List ℕ → ℕ → List ℕ → List ℕ
-pairRest E j B = map (apart (form E) (getD B 0 0) (getD B j 0)) (othersOf j B)
+pairRest E j B = map (clearedOfPair (form E) (getD B 0 0) (getD B j 0)) (othersOf j B)
 
 pub rest-length : (E : List ℕ) (j : ℕ) (B : List ℕ) → 1 ≤ j → j < length B → length (pairRest E j B) ≡ length B - 2
 unfolding pairRest
-rest-length E j B p h = length-map (othersOf j B) (apart (form E) (getD B 0 0) (getD B j 0)) ∙ others-length j B p h
+rest-length E j B p h = length-map (othersOf j B) (clearedOfPair (form E) (getD B 0 0) (getD B j 0)) ∙ others-length j B p h
 
 module _ (E : List ℕ) (j : ℕ) (B : List ℕ) (y f p : ℕ) (a b : Bool) (v : ℕ) (new : v ≡ y ⊕ select 0 a f ⊕ select 0 b p) where
   -- the n-th of them stood at i
@@ -88,11 +65,11 @@ module _ (E : List ℕ) (j : ℕ) (B : List ℕ) (y f p : ℕ) (a b : Bool) (v :
       new ∙ ap₂ (λ s t. y ⊕ select 0 s f ⊕ select 0 t p) (sym a-is) (sym b-is)
       ∙ ap (λ s. s ⊕ select 0 (form E (getD B j 0) x) f ⊕ select 0 (form E (getD B 0 0) x) p) y-is
       ∙ ap₂ (λ s t. x ⊕ select 0 (form E (getD B j 0) x) s ⊕ select 0 (form E (getD B 0 0) x) t) f-is p-is
-      ∙ ap (apart (form E) (getD B 0 0) (getD B j 0)) (sym at)
-      ∙ sym (apart-at (form E) (getD B 0 0) (getD B j 0) (othersOf j B) n h)
+      ∙ ap (clearedOfPair (form E) (getD B 0 0) (getD B j 0)) (sym at)
+      ∙ sym (map-get (clearedOfPair (form E) (getD B 0 0) (getD B j 0)) (othersOf j B) n 0 0 h)
 
   pub rest-row : (n g f-row p-row w : ℕ) → g ≡ times y E → f-row ≡ times f E → p-row ≡ times p E → w ≡ g ⊕ select 0 a f-row ⊕ select 0 b p-row
       → v ≡ getD (pairRest E j B) n 0 → w ≡ getD (matmul (pairRest E j B) E) n 0
   rest-row n g f-row p-row w g-is f-is p-is w-is v-is =
       w-is ∙ ap (λ s. s ⊕ select 0 a f-row ⊕ select 0 b p-row) g-is ∙ ap₂ (λ s t. times y E ⊕ select 0 a s ⊕ select 0 b t) f-is p-is
-      ∙ sym (apart-row E y f p a b) ∙ ap (λ s. times s E) (sym new ∙ v-is) ∙ sym (row-times (pairRest E j B) E n)
+      ∙ sym (cleared-row E y f p a b) ∙ ap (λ s. times s E) (sym new ∙ v-is) ∙ sym (row-times (pairRest E j B) E n)

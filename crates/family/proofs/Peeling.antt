@@ -1,43 +1,49 @@
 -- One turn of the family's loop: a member peeled and another dropped, none dropped, nothing picked; and the family at its end.
 -- Assumes nothing.
-use mathlib.Core.Path.{_≡_, refl, sym, ap, _∙_}
+use mathlib.Core.Path.{_≡_, refl, sym, ap, _∙_, subst}
 use mathlib.Core.Bool.{Bool, true, false, _||_}
 use mathlib.Core.List.{List, [], _∷_, _++_, map, map-append}
 use mathlib.Core.Option.{Option, none, some}
-use Prim.Native.Nat.{ℕ, zero, suc, _≤_, _<_}
+use Prim.Native.Nat.{ℕ, zero, suc, _≤_, _<_, zero-le}
 use native.Mathlib.Nat.{not-suc-le-zero}
 use native.Mathlib.Omega.{arith}
 use lib.ListN.{length, length-map}
 use lib.Seq.{append-snoc}
-use Rattle.binar.specs.Bits.{select, _⊕_}
-use Rattle.symplectic.specs.Picks.{mapSome, firstOne, firstUneven, pick}
+use Rattle.binar.specs.Bits.{select, _⊕_, dot}
+use Rattle.blocks.specs.Matrices.{times}
+use Rattle.symplectic.specs.Picks.{mapSome, pick}
+use Rattle.symplectic.proofs.FirstPicks.{firstOne-end, firstUneven-end, pick-of-uneven}
+use Rattle.reduction.specs.Residue.{form}
 use Rattle.triangular.specs.Spaces.{dropOrKeep, complement}
+use Rattle.triangular.proofs.Complements.{complement-nil, complement-cons}
+use Rattle.triangular.proofs.Cores.{form-row}
 use Rattle.family.specs.Family.{anyOf, symplecticSimplex, related, passedOn, peeled, borderedFamily}
-use Rattle.family.specs.Readings.{marked, peeledBefore}
+use Rattle.family.specs.declared.Construction.{Construction}
+use Rattle.family.specs.declared.Construction.the-variants.{Made, Stuck}
+use Rattle.family.specs.Readings.{ifMade, marked}
+use Rattle.family.specs.inner.Parts.{peeledBefore}
 
 -- ---- whether a member is dropped
 
 module _ (f : ℕ → Bool) where
-  pub any-drops : (bs : List ℕ) → anyOf f bs ≡ true → length bs ≡ suc (length (complement f bs))
-  unfolding complement
+  any-drops : (bs : List ℕ) → anyOf f bs ≡ true → length bs ≡ suc (length (complement f bs))
   any-drops [] e = let z : _≡_ {A = ℕ} 0 1 = cc in absurd (omega arith)
-  any-drops (m ∷ bs) e = go (f m) refl (any-drops bs)
+  any-drops (m ∷ bs) e = go (f m) refl (any-drops bs) ∙ ap (λ l. suc (length l)) (sym (complement-cons f m bs))
     where
       go : (b : Bool) → f m ≡ b → (anyOf f bs ≡ true → length bs ≡ suc (length (complement f bs)))
           → suc (length bs) ≡ suc (length (dropOrKeep b m (map (λ y. y ⊕ select 0 (f y) m) bs) (complement f bs)))
       go true q ih = ap suc (sym (length-map bs (λ y. y ⊕ select 0 (f y) m)))
       go false q ih = ap suc (ih (ap (λ t. t || anyOf f bs) (sym q) ∙ e))
 
-  pub any-keeps : (bs : List ℕ) → anyOf f bs ≡ false → complement f bs ≡ bs
-  unfolding complement
-  any-keeps [] e = refl
-  any-keeps (m ∷ bs) e = go (f m) refl (any-keeps bs)
+  any-keeps : (bs : List ℕ) → anyOf f bs ≡ false → complement f bs ≡ bs
+  any-keeps [] e = complement-nil f
+  any-keeps (m ∷ bs) e = complement-cons f m bs ∙ go (f m) refl (any-keeps bs)
     where
       go : (b : Bool) → f m ≡ b → (anyOf f bs ≡ false → complement f bs ≡ bs) → dropOrKeep b m (map (λ y. y ⊕ select 0 (f y) m) bs) (complement f bs) ≡ m ∷ bs
       go true q ih = let z : true ≡ false = ap (λ t. t || anyOf f bs) (sym q) ∙ e in let n : _≡_ {A = ℕ} 0 1 = cc in absurd (omega arith)
       go false q ih = ap (λ l. m ∷ l) (ih (ap (λ t. t || anyOf f bs) (sym q) ∙ e))
 
-  pub rest-shorter : (bs : List ℕ) → (length (complement f bs) ≡ length bs → ⊥) → length (complement f bs) < length bs
+  rest-shorter : (bs : List ℕ) → (length (complement f bs) ≡ length bs → ⊥) → length (complement f bs) < length bs
   rest-shorter bs n = go (anyOf f bs) refl
     where
       go : (b : Bool) → anyOf f bs ≡ b → length (complement f bs) < length bs
@@ -69,8 +75,10 @@ module _ (E : ℕ → ℕ → Bool) where
       same (some l) = refl
 
   pick-nil : (p : ℕ) → pick _⊕_ E [] ≡ some p → ⊥
-  unfolding pick firstOne firstUneven
-  pick-nil p e = let z : _≡_ {A = ℕ} 0 1 = cc in omega arith
+  pick-nil p e =
+      let none-picked = pick-of-uneven _⊕_ E [] (firstOne-end _⊕_ E [] 0 0 zero-le) ∙ firstUneven-end _⊕_ E [] 0 0 zero-le in
+      let z : _≡_ {A = ℕ} 0 1 = cc in
+      omega arith
 
   -- a depth below, and what is peeled there
   peeled-at : (n : ℕ) (bs : List ℕ) (p : ℕ) → length bs ≤ n → pick _⊕_ E bs ≡ some p
@@ -83,7 +91,7 @@ module _ (E : ℕ → ℕ → Bool) where
   module _ (whole : Option (List (ℕ × Bool))) (vs bs : List ℕ) (l : Left E whole vs bs) where
     module _ (p : ℕ) (is : pick _⊕_ E bs ≡ some p) where
       -- a member is dropped
-      pub family-peeled : length (complement (E p) bs) < length bs → Left E whole (vs ++ (p ∷ [])) (complement (E p) bs)
+      family-peeled : length (complement (E p) bs) < length bs → Left E whole (vs ++ (p ∷ [])) (complement (E p) bs)
       family-peeled h = go (anyOf (E p) bs) refl (peeled-at (l .depth) bs p (l .deep) is)
         where
           rest : List ℕ
@@ -101,7 +109,7 @@ module _ (E : ℕ → ℕ → Bool) where
           go false q (m, e, k) = let z = ap length (any-keeps (E p) bs q) in absurd (omega arith)
 
       -- none is
-      pub family-stuck : length (complement (E p) bs) ≡ length bs → none ≡ whole
+      family-stuck : length (complement (E p) bs) ≡ length bs → none ≡ whole
       family-stuck h = go (anyOf (E p) bs) refl (peeled-at (l .depth) bs p (l .deep) is)
         where
           go : (b : Bool) → anyOf (E p) bs ≡ b
@@ -120,9 +128,32 @@ module _ (E : ℕ → ℕ → Bool) where
         at zero = refl
         at (suc n) = ap (peeled E bs (borderedFamily E n)) e
 
+-- a vector p is picked, with form row f, and `rest` is what is passed on
+module _ (E : List ℕ) (whole : Option (List (ℕ × Bool))) (vs bs : List ℕ) (l : Left (form E) whole vs bs) (p f : ℕ) (is : pick _⊕_ (form E) bs ≡ some p)
+    (row : f ≡ times p E) (rest : List ℕ) (passed : rest ≡ complement (dot f) bs) where
+  by-form : complement (form E p) bs ≡ rest
+  by-form = ap (λ g. complement g bs) (form-row E p f row) ∙ sym passed
+
+  pub turn-stuck : length rest ≡ length bs → none ≡ whole
+  turn-stuck h = family-stuck (form E) whole vs bs l p is (ap length by-form ∙ h)
+
+  shorter : (length rest ≡ length bs → ⊥) → length (complement (form E p) bs) < length bs
+  shorter n = rest-shorter (form E p) bs (λ e. n (ap length (sym by-form) ∙ e))
+
+  pub turn-shorter : (length rest ≡ length bs → ⊥) → length rest < length bs
+  turn-shorter n = subst (λ r. length r < length bs) by-form (shorter n)
+
+  pub turn-peeled : (length rest ≡ length bs → ⊥) → Left (form E) whole (vs ++ (p ∷ [])) rest
+  turn-peeled n = subst (Left (form E) whole (vs ++ (p ∷ []))) by-form (family-peeled (form E) whole vs bs l p is (shorter n))
+
 -- ---- the end
 
 pub marked-joined : (vs ws : List ℕ) → marked (length vs) (vs ++ ws) ≡ peeledBefore vs (map (λ w. (w, true)) ws)
 unfolding marked peeledBefore
 marked-joined [] ws = refl
 marked-joined (v ∷ vs) ws = ap (λ l. (v, false) ∷ l) (marked-joined vs ws)
+
+-- what is made of a construction
+pub made-map : {A B : Type 0} (f : A → B) (c : Construction) (a : A) → mapSome f (ifMade c a) ≡ ifMade c (f a)
+made-map f Made a = refl
+made-map f Stuck a = refl

@@ -32,8 +32,8 @@ module _ (E : ℕ → ℕ → Bool) where
   splitAt f (y ∷ ys) = orIf (E f y) (record { partner = y; others = ys }) (mapSome (keptBefore y) (splitAt f ys))
 
   -- the remainder's members gain f where sEy = 1 and s where fEy = 1
-  abbrev pub apart : ℕ → ℕ → ℕ → ℕ
-  apart f s y = y ⊕ select 0 (E s y) f ⊕ select 0 (E f y) s
+  abbrev pub clearedOfPair : ℕ → ℕ → ℕ → ℕ
+  clearedOfPair f s y = y ⊕ select 0 (E s y) f ⊕ select 0 (E f y) s
 
   -- s, f + s, and f added to each vector of the remainder's simplex
   abbrev pub extended : ℕ → ℕ → List ℕ → List ℕ
@@ -41,7 +41,7 @@ module _ (E : ℕ → ℕ → Bool) where
 
   unfoldable pub withPartner : ℕ → (List ℕ → Option (List ℕ)) → Option Split → Option (List ℕ)
   withPartner f go none = none
-  withPartner f go (some t) = mapSome (extended f (t .partner)) (go (map (apart f (t .partner)) (t .others)))
+  withPartner f go (some t) = mapSome (extended f (t .partner)) (go (map (clearedOfPair f (t .partner)) (t .others)))
 
   -- the empty space has the one zero vector
   unfoldable pub fromFirst : List ℕ → (List ℕ → Option (List ℕ)) → Option (List ℕ)

@@ -13,7 +13,7 @@ use Rattle.binar.specs.Bits.{digit}
 use Rattle.blocks.specs.Matrices.{units}
 use Rattle.symplectic.specs.Turns.{followedBy, product}
 use Rattle.symplectic.specs.Replies.{ask, andThen}
-use Rattle.symplectic.proofs.Products.{followedBy-append}
+use Rattle.symplectic.proofs.Products.{followedBy-append, product-nil, product-append}
 use Rattle.symplectic.proofs.Questions.{ask-passed, then-passed, then-refused}
 use Rattle.gates.specs.Sheet.{sheet, gate, turnVector}
 use Rattle.gates.specs.Sequences.{readsTwo, gateQuestions, sequenceQuestions, sequenceTurns}
@@ -103,8 +103,8 @@ Upto n l j F =
 
 module _ (n : ℕ) (l : List ℕ) where
   pub upto-none : (F : List ℕ) → F ≡ units (n + n) → Upto n l 0 F
-  unfolding product
-  upto-none F e = (refl, ap (λ (x : List ℕ). followedBy n x (sequenceTurns n l)) e)
+  upto-none F e =
+      (refl, ap (λ (x : List ℕ). followedBy n x (sequenceTurns n l)) (e ∙ sym (product-nil n)) ∙ sym (product-append n [] (sequenceTurns n l)))
 
   module _ (j : ℕ) (F : List ℕ) (upto : Upto n l j F) where
     -- bytes short of a whole gate are left

@@ -1,3 +1,4 @@
 pub mod Turned
 pub mod Asked
+pub mod Narrow
 pub mod Replied

@@ -5,56 +5,64 @@ use mathlib.Core.List.{List}
 use Prim.Native.Nat.{ℕ, suc, _+_, _≤_, _<_}
 use lib.ListN.{length}
 use Rattle.blocks.specs.Words.{rowsOfWords, laid}
-use Rattle.symplectic.specs.declared.Told.{Told}
+use Rattle.blocks.proofs.Values.{rows-count, laid-length}
+use Rattle.symplectic.specs.Actions.{maxQubits}
+use Rattle.symplectic.specs.declared.Figures.{Figures}
 use Rattle.symplectic.specs.Turns.{product}
-use Rattle.symplectic.specs.Replies.{Reply, toldOf, refused, listed, sizeQuestion, countQuestion, Rebuilds}
+use Rattle.symplectic.specs.Replies.{Reply, refused, listed, sizeQuestion, countQuestion, Rebuilds}
 use Rattle.symplectic.proofs.Products.{product-length}
 use Rattle.symplectic.proofs.Questions.{size-refused, size-passed, size-known, count-refused, count-passed, count-known}
-use Rattle.symplectic.proofs.Answered.{Meets, Holds, meets-refused, meets-answer, rebuilds}
+use Rattle.symplectic.proofs.Answered.{Meets, Holds, holds-unless, meets-refused, meets-answer, rebuilds}
 use Rattle.gates.specs.declared.GateAction.the-variants.{Rows, TooManyQubits, WrongRowCount}
-use Rattle.gates.specs.Answers.{told}
+use Rattle.gates.specs.Answers.{figuresOf}
 use Rattle.gates.specs.Sequences.{sequenceQuestions, sequenceTurns, gatesReply}
+use Rattle.gates.proofs.Narrow.{sequence-lt}
 
 module _ (n : ℕ) (bytes out : List ℕ) where
   abbrev asked : ℕ
-  asked = sizeQuestion n (countQuestion n (rowsOfWords out) (sequenceQuestions n bytes))
+  asked = sizeQuestion n (countQuestion n (rowsOfWords n out) (sequenceQuestions n bytes))
 
-  abbrev pub Promised : List ℕ → Told → Type 0
+  abbrev pub Promised : List ℕ → Figures → Type 0
   Promised = Rebuilds n (sequenceTurns n bytes)
 
   abbrev answer : Reply
-  answer = listed (product n (sequenceTurns n bytes)) 0 out
+  answer = listed n (product n (sequenceTurns n bytes)) 0 out
 
   pub gates-rebuild : Holds Promised (gatesReply n bytes out)
   unfolding gatesReply
-  gates-rebuild = rebuilds n (sequenceTurns n bytes) asked out (λ e. count-known n _ (rowsOfWords out) (size-known n _ e .1) .0)
+  gates-rebuild =
+      rebuilds n (sequenceTurns n bytes) asked out
+      (λ e. let size = size-known n _ e in let count = count-known n _ (rowsOfWords n out) (size .1) in (size .0, (sequence-lt n bytes (count .1), count .0)))
 
-  gates-refused : (k : ℕ) (t : Told) → sizeQuestion n (countQuestion n (rowsOfWords out) (sequenceQuestions n bytes)) ≡ suc k → t ≡ toldOf (refused (suc k) 0 out)
+  -- the lent words are as many as before
+  pub gates-kept : length (gatesReply n bytes out .words) ≡ length out
+  unfolding gatesReply
+  gates-kept = holds-unless (λ left t. length left ≡ length out) asked out answer (λ k. refl) (λ e. laid-length n (product n (sequenceTurns n bytes)) out)
+
+  gates-refused : (k : ℕ) (t : Figures) → sizeQuestion n (countQuestion n (rowsOfWords n out) (sequenceQuestions n bytes)) ≡ suc k → t ≡ refused (suc k) 0 out .figures
       → Meets Promised (gatesReply n bytes out) out t
   unfolding gatesReply
   gates-refused k t = meets-refused Promised asked out answer gates-rebuild t k
 
-  pub gates-1 : 32 < n → Meets Promised (gatesReply n bytes out) out (told TooManyQubits)
-  unfolding told toldOf refused
-  gates-1 h = gates-refused 0 (told TooManyQubits) (size-refused n _ h) refl
+  pub gates-1 : maxQubits < n → Meets Promised (gatesReply n bytes out) out (figuresOf TooManyQubits)
+  gates-1 h = gates-refused 0 (figuresOf TooManyQubits) (size-refused n _ h) refl
 
-  module _ (size : n ≤ 32) where
-    pub gates-2 : (length out ≡ n + n → ⊥) → Meets Promised (gatesReply n bytes out) out (told WrongRowCount)
-    unfolding told toldOf refused rowsOfWords
-    gates-2 h = gates-refused 1 (told WrongRowCount) (size-passed n _ size ∙ count-refused n _ out h) refl
+  module _ (size : n ≤ maxQubits) where
+    pub gates-2 : (length out ≡ n + n → ⊥) → Meets Promised (gatesReply n bytes out) out (figuresOf WrongRowCount)
+    gates-2 h =
+        gates-refused 1 (figuresOf WrongRowCount) (size-passed n _ size ∙ count-refused n _ (rowsOfWords n out) (λ e. h (sym (rows-count n out) ∙ e))) refl
 
     module _ (lent : length out ≡ n + n) where
-      passed : sizeQuestion n (countQuestion n (rowsOfWords out) (sequenceQuestions n bytes)) ≡ sequenceQuestions n bytes
-      unfolding rowsOfWords
-      passed = size-passed n _ size ∙ count-passed n _ out lent
+      passed : sizeQuestion n (countQuestion n (rowsOfWords n out) (sequenceQuestions n bytes)) ≡ sequenceQuestions n bytes
+      passed = size-passed n _ size ∙ count-passed n _ (rowsOfWords n out) (rows-count n out ∙ lent)
 
-      pub gate-refused : (k : ℕ) (t : Told) → sequenceQuestions n bytes ≡ suc k → t ≡ toldOf (refused (suc k) 0 out) → Meets Promised (gatesReply n bytes out) out t
+      pub gate-refused : (k : ℕ) (t : Figures) → sequenceQuestions n bytes ≡ suc k → t ≡ refused (suc k) 0 out .figures → Meets Promised (gatesReply n bytes out) out t
       gate-refused k t e s = gates-refused k t (passed ∙ e) s
 
       -- an answer lays the product into the words
-      pub gates-listed : (count : ℕ) (left : List ℕ) → sequenceQuestions n bytes ≡ 0 → count ≡ n + n → left ≡ laid (product n (sequenceTurns n bytes)) out
-          → Meets Promised (gatesReply n bytes out) left (told (Rows count))
-      unfolding gatesReply listed toldOf told
-      gates-listed count left e c l =
-          meets-answer Promised asked out answer gates-rebuild (told (Rows count)) (passed ∙ e) left
-          (ap (λ (k : ℕ). told (Rows k)) (c ∙ sym (product-length n (sequenceTurns n bytes)))) l
+      pub gates-listed : (left : List ℕ) → sequenceQuestions n bytes ≡ 0 → left ≡ laid n (product n (sequenceTurns n bytes)) out
+          → Meets Promised (gatesReply n bytes out) left (figuresOf (Rows (n + n)))
+      unfolding gatesReply
+      gates-listed left e l =
+          meets-answer Promised asked out answer gates-rebuild (figuresOf (Rows (n + n))) (passed ∙ e) left
+          (ap (λ (k : ℕ). figuresOf (Rows k)) (sym (product-length n (sequenceTurns n bytes)))) l

@@ -3,21 +3,24 @@
 use mathlib.Core.Path.{_≡_, refl, sym, ap, ap₂, _∙_}
 use mathlib.Core.Bool.{Bool, true, false}
 use mathlib.Core.List.{List, [], map}
-use Prim.Native.Nat.{ℕ, zero, suc, _+_, _^_, _≤_, _<_}
+use Prim.Native.Nat.{ℕ, zero, suc, _+_, _/_, _%_, _^_, _≤_, _<_}
 use native.Mathlib.Numerals.{add-one}
 use native.Mathlib.Omega.{arith}
+use lib.Dec.{eqb}
 use lib.ListN.{length, getD, take, drop, List·getD-eq-default, drop-of-length-le}
 use lib.Seq.{drop-cons, getD-take, length-take-le}
-use Rattle.binar.specs.Bits.{select, digit, odd, bit, _⊕_}
+use Rattle.binar.specs.Bits.{select, digit, bit, _⊕_}
 use Rattle.binar.specs.Rows.{width, unit}
+use Rattle.binar.proofs.Digits.{bit-is}
 use Rattle.binar.proofs.Ones.{unit-is}
 use Rattle.blocks.specs.Matrices.{All}
 use Rattle.blocks.proofs.All.{All·any}
+use Rattle.symplectic.specs.Actions.{maxQubits}
 use Rattle.symplectic.specs.Turns.{followed, followedBy}
-use Rattle.gates.specs.declared.Line.{Line}
-use Rattle.gates.specs.Answers.{gateOf}
+use Rattle.gates.specs.declared.SheetLine.{SheetLine}
 use Rattle.gates.specs.Sheet.{Gate, sheet, gate, turnVector}
 use Rattle.gates.specs.Sequences.{readsTwo}
+use Rattle.gates.specs.inner.Readings.{gateOf}
 
 -- ---- the sheet
 
@@ -29,18 +32,22 @@ gate-past g h = List·getD-eq-default sheet (record { qubits = 0; turns = [] }) 
 abbrev pub Second : Type 0 → ℕ → Type 0
 Second P code = (bit 1 code ≡ true → P) × (bit 3 code ≡ true → P)
 
-never : {P : Type 0} → false ≡ true → P
-never e = absurd (omega (arith, ap digit e))
+-- a code without bits on the second qubit
+none : (P : Type 0) (code : ℕ) → eqb (code / 2 ^ 1 % 2) 1 ≡ false → eqb (code / 2 ^ 3 % 2) 1 ≡ false → Second P code
+none P code x z = (unset 1 x, unset 3 z)
+  where
+    unset : (k : ℕ) → eqb (code / 2 ^ k % 2) 1 ≡ false → bit k code ≡ true → P
+    unset k off on = absurd (omega (arith, ap digit (sym off ∙ sym (bit-is k code) ∙ on)))
 
 always : (P : Type 0) → P → (codes : List ℕ) → All (Second P) codes
 always P p codes = All·any {P = Second P} (λ code. (λ e. p, λ e. p)) codes
 
 -- only the turns of a gate that reads two qubits have one
 pub second-read : (P : Type 0) (g : ℕ) → (readsTwo g ≡ true → P) → All (Second P) (gate g .turns)
-unfolding readsTwo gate sheet bit odd
-second-read P zero h = ((never, never), tt)
-second-read P (suc zero) h = ((never, never), tt)
-second-read P (suc (suc zero)) h = ((never, never), tt)
+unfolding readsTwo gate sheet
+second-read P zero h = (none P 5 refl refl, tt)
+second-read P (suc zero) h = (none P 4 refl refl, tt)
+second-read P (suc (suc zero)) h = (none P 1 refl refl, tt)
 second-read P (suc (suc (suc zero))) h = always P (h refl) (gate 3 .turns)
 second-read P (suc (suc (suc (suc zero)))) h = always P (h refl) (gate 4 .turns)
 second-read P (suc (suc (suc (suc (suc zero))))) h = always P (h refl) (gate 5 .turns)
@@ -48,12 +55,11 @@ second-read P (suc (suc (suc (suc (suc (suc g)))))) h = tt
 
 -- ---- a vector
 
-module _ (n a b code : ℕ) (size : n ≤ 32) (first : a < n) (second : Second (b < n) code) where
-  picked : (k c : ℕ) → (bit k code ≡ true → c < 64) → select 0 (bit k code) (unit c) ≡ select 0 (bit k code) (2 ^ c)
-  unfolding width
+module _ (n a b code : ℕ) (size : n ≤ maxQubits) (first : a < n) (second : Second (b < n) code) where
+  picked : (k c : ℕ) → (bit k code ≡ true → c < width) → select 0 (bit k code) (unit c) ≡ select 0 (bit k code) (2 ^ c)
   picked k c h = cases (bit k code) h
     where
-      cases : (t : Bool) → (t ≡ true → c < 64) → select 0 t (unit c) ≡ select 0 t (2 ^ c)
+      cases : (t : Bool) → (t ≡ true → c < width) → select 0 t (unit c) ≡ select 0 t (2 ^ c)
       cases true f = unit-is c (f refl)
       cases false f = refl
 
@@ -67,7 +73,7 @@ module _ (n a b code : ℕ) (size : n ≤ 32) (first : a < n) (second : Second (
 
 -- ---- the turns of a line
 
-module _ (l : Line) (g : ℕ) (long : length (l .codes) ≡ 3) (same : gateOf l ≡ gate g) (few : l .count ≤ 3) where
+module _ (l : SheetLine) (g : ℕ) (long : length (l .codes) ≡ 3) (same : gateOf l ≡ gate g) (few : l .count ≤ 3) where
   turns-are : take (l .count) (l .codes) ≡ gate g .turns
   unfolding gateOf
   turns-are = ap (λ (x : Gate). x .turns) same

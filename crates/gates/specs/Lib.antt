@@ -1,3 +1,4 @@
 pub mod Sheet
 pub mod Sequences
 pub mod Answers
+pub mod inner

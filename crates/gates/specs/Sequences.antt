@@ -37,5 +37,5 @@ sequenceTurns n (g ∷ a ∷ b ∷ rest) = map (turnVector n a b) (gate g .turns
 -- questions 1, 2 of the output rows, then 9, 10, 11 gate by gate; the answer is the 2n rows of the action
 unfoldable pub gatesReply : ℕ → List ℕ → List ℕ → Reply
 gatesReply n bytes out =
-    unlessRefused (sizeQuestion n (countQuestion n (rowsOfWords out) (sequenceQuestions n bytes))) out
-    (listed (product n (sequenceTurns n bytes)) 0 out)
+    unlessRefused (sizeQuestion n (countQuestion n (rowsOfWords n out) (sequenceQuestions n bytes))) out
+    (listed n (product n (sequenceTurns n bytes)) 0 out)

@@ -2,29 +2,31 @@
 // Not in the source.
 use binar::Row;
 use symplectic::Action;
-use symplectic::Told;
+use symplectic::Figures;
+use symplectic::MAX_QUBITS;
 ghost use mathlib.Core.Path.{_≡_};
 ghost use mathlib.Core.Bool.{true};
-ghost use mathlib.Core.List.{map};
+ghost use mathlib.Core.List.{[], _∷_, map};
 ghost use Prim.Native.Nat.{_+_, _<_, _≤_};
 ghost use Rattle.binar.specs.Bits.{select, bit};
 ghost use Rattle.binar.specs.Rows.{val, unit};
 ghost use Rattle.symplectic.specs.Turns.{followedBy};
-ghost use Rattle.symplectic.specs.Actions.{qubits as qubitsOf, matrix};
-ghost use Rattle.symplectic.specs.Replies.{toldOf, Rebuilds};
+ghost use Rattle.symplectic.specs.Actions.{maxQubits, qubits as qubitsOf, matrix};
+ghost use Rattle.symplectic.specs.Replies.{Rebuilds};
 ghost use Rattle.gates.specs.Sheet.{gate, turnVector};
 ghost use Rattle.gates.specs.Sequences.{readsTwo, gateQuestions, sequenceTurns, gatesReply};
-ghost use Rattle.gates.specs.Answers.{gateOf, numberOf, told};
+ghost use Rattle.gates.specs.Answers.{figuresOf};
+ghost use Rattle.gates.specs.inner.Readings.{gateOf, numberOf};
 
 // A line of the gate sheet: how many qubits the gate reads, how many turns it has, and their codes.
-struct Line {
+struct SheetLine {
     qubits: u64,
     count: usize,
     codes: [u64; 3],
 }
 
 // Which question of a gate is answered no, if any.
-enum Verdict {
+enum GateQuestion {
     Passed,
     UnknownGate,
     QubitTooHigh,
@@ -41,56 +43,44 @@ pub enum GateAction {
     EqualQubits,
 }
 
+// The line of a gate of one qubit.
+fn one_turn(code: u64) -> SheetLine
+    ensures { λ r. ⌜ (gateOf r ≡ record { qubits = 1; turns = code ∷ [] }) × (r .count ≤ 3) ⌝ }
+{
+    SheetLine {
+        qubits: 1,
+        count: 1,
+        codes: [code, 0, 0],
+    }
+}
+
+// The line of a gate of two qubits.
+fn three_turns(p: u64, q: u64, r: u64) -> SheetLine
+    ensures { λ l. ⌜ (gateOf l ≡ record { qubits = 2; turns = p ∷ q ∷ r ∷ [] }) × (l .count ≤ 3) ⌝ }
+{
+    SheetLine {
+        qubits: 2,
+        count: 3,
+        codes: [p, q, r],
+    }
+}
+
 // The gate sheet: H, S, root X, CX, CZ, SWAP. Past it, a line without turns.
-fn sheet_line(g: u8) -> Line
+fn sheet_line(g: u8) -> SheetLine
     ensures { λ r. ⌜ (gateOf r ≡ gate g) × (r .count ≤ 3) ⌝ }
 {
-    if g == 0 {
-        return Line {
-            qubits: 1,
-            count: 1,
-            codes: [5, 0, 0],
-        };
-    }
-    if g == 1 {
-        return Line {
-            qubits: 1,
-            count: 1,
-            codes: [4, 0, 0],
-        };
-    }
-    if g == 2 {
-        return Line {
-            qubits: 1,
-            count: 1,
-            codes: [1, 0, 0],
-        };
-    }
-    if g == 3 {
-        return Line {
-            qubits: 2,
-            count: 3,
-            codes: [4, 6, 2],
-        };
-    }
-    if g == 4 {
-        return Line {
-            qubits: 2,
-            count: 3,
-            codes: [4, 12, 8],
-        };
-    }
-    if g == 5 {
-        return Line {
-            qubits: 2,
-            count: 3,
-            codes: [3, 15, 12],
-        };
-    }
-    Line {
-        qubits: 0,
-        count: 0,
-        codes: [0, 0, 0],
+    match g {
+        0 => one_turn(5),
+        1 => one_turn(4),
+        2 => one_turn(1),
+        3 => three_turns(4, 6, 2),
+        4 => three_turns(4, 12, 8),
+        5 => three_turns(3, 15, 12),
+        _ => SheetLine {
+            qubits: 0,
+            count: 0,
+            codes: [0, 0, 0],
+        },
     }
 }
 
@@ -103,29 +93,29 @@ fn reads_two(g: u8) -> bool
 }
 
 // Questions 9 to 11 of a gate.
-fn question(n: u64, g: u8, a: u8, b: u8) -> Verdict
+fn question(n: u64, g: u8, a: u8, b: u8) -> GateQuestion
     ensures { λ r. ⌜ numberOf r ≡ gateQuestions n g a b ⌝ }
 {
     if 5 < g {
-        return Verdict::UnknownGate;
+        return GateQuestion::UnknownGate;
     }
     if n <= a as u64 {
-        return Verdict::QubitTooHigh;
+        return GateQuestion::QubitTooHigh;
     }
     if !reads_two(g) {
-        return Verdict::Passed;
+        return GateQuestion::Passed;
     }
     if n <= b as u64 {
-        return Verdict::QubitTooHigh;
+        return GateQuestion::QubitTooHigh;
     }
     if a == b {
-        return Verdict::EqualQubits;
+        return GateQuestion::EqualQubits;
     }
-    Verdict::Passed
+    GateQuestion::Passed
 }
 
 // The unit row of column k where the code has bit j, else the zero row.
-fn part(code: u64, j: usize, k: usize) -> Row
+fn unit_where(code: u64, j: usize, k: usize) -> Row
     ensures { λ r. ⌜ val r ≡ select 0 (bit j code) (unit k) ⌝ }
 {
     if binar::bit(binar::of_word(code), j) {
@@ -136,15 +126,15 @@ fn part(code: u64, j: usize, k: usize) -> Row
 }
 
 // The vector of a turn on qubits a and b of n; b need be a qubit only where the code has a part on it.
-fn vector(n: usize, a: u8, b: u8, code: u64) -> Row
-    requires { ⌜ (n ≤ 32) × (a < n) × (bit 1 code ≡ true → b < n) × (bit 3 code ≡ true → b < n) ⌝ }
+fn turn_vector(n: usize, a: u8, b: u8, code: u64) -> Row
+    requires { ⌜ (n ≤ maxQubits) × (a < n) × (bit 1 code ≡ true → b < n) × (bit 3 code ≡ true → b < n) ⌝ }
     ensures { λ r. ⌜ val r ≡ turnVector n a b code ⌝ }
 {
     let p = a as usize;
     let q = b as usize;
-    let x = binar::sum(part(code, 0, p), part(code, 1, q));
-    let y = binar::sum(x, part(code, 2, n + p));
-    binar::sum(y, part(code, 3, n + q))
+    let x = binar::sum(unit_where(code, 0, p), unit_where(code, 1, q));
+    let y = binar::sum(x, unit_where(code, 2, n + p));
+    binar::sum(y, unit_where(code, 3, n + q))
 }
 
 // The action followed by the turns of gate g.
@@ -153,37 +143,61 @@ fn after_gate(act: Action, g: u8, a: u8, b: u8) -> Action
     ensures { λ r. ⌜ (qubitsOf r ≡ qubitsOf act) × (matrix r ≡ followedBy (qubitsOf act) (matrix act) (map (turnVector (qubitsOf act) a b) (gate g .turns))) ⌝ }
 {
     let mut after = act;
-    let n = symplectic::width(act);
+    let n = symplectic::qubits_of(act);
     let l = sheet_line(g);
     let count = l.count;
     for j in 0..count {
-        let v = vector(n, a, b, l.codes[j]);
+        let v = turn_vector(n, a, b, l.codes[j]);
         after = symplectic::followed(after, v);
     }
     after
 }
 
 // The number and the count that an answer stands for.
-pub fn tell(r: GateAction) -> Told
-    ensures { λ t. ⌜ t ≡ told r ⌝ }
+pub fn figures_of(r: GateAction) -> Figures
+    ensures { λ t. ⌜ t ≡ figuresOf r ⌝ }
 {
     match r {
-        GateAction::Rows { count } => symplectic::telling(0, count, 0),
-        GateAction::TooManyQubits => symplectic::telling(1, 0, 0),
-        GateAction::WrongRowCount => symplectic::telling(2, 0, 0),
-        GateAction::UnknownGate => symplectic::telling(9, 0, 0),
-        GateAction::QubitTooHigh => symplectic::telling(10, 0, 0),
-        GateAction::EqualQubits => symplectic::telling(11, 0, 0),
+        GateAction::Rows { count } => Figures {
+            number: 0,
+            count: count,
+            looks: 0,
+        },
+        GateAction::TooManyQubits => Figures {
+            number: 1,
+            count: 0,
+            looks: 0,
+        },
+        GateAction::WrongRowCount => Figures {
+            number: 2,
+            count: 0,
+            looks: 0,
+        },
+        GateAction::UnknownGate => Figures {
+            number: 9,
+            count: 0,
+            looks: 0,
+        },
+        GateAction::QubitTooHigh => Figures {
+            number: 10,
+            count: 0,
+            looks: 0,
+        },
+        GateAction::EqualQubits => Figures {
+            number: 11,
+            count: 0,
+            looks: 0,
+        },
     }
 }
 
 // The action of the whole gates among the bytes, three bytes each, in exactly 2n lent rows.
 pub fn gate_action(n: u64, bytes: &[u8], out: &mut [u64]) -> GateAction
-    ensures answered { λ r. ⌜ told r ≡ toldOf (gatesReply n (now (bytes .entry)) (now (out .entry))) ⌝ }
+    ensures answered { λ r. ⌜ figuresOf r ≡ gatesReply n (now (bytes .entry)) (now (out .entry)) .figures ⌝ }
     ensures left { λ r. ⌜ now (out .exit) ≡ gatesReply n (now (bytes .entry)) (now (out .entry)) .words ⌝ }
-    ensures replays { λ r. ⌜ Rebuilds n (sequenceTurns n (now (bytes .entry))) (now (out .exit)) (told r) ⌝ }
+    ensures replays { λ r. ⌜ Rebuilds n (sequenceTurns n (now (bytes .entry))) (now (out .exit)) (figuresOf r) ⌝ }
 {
-    if 32 < n {
+    if MAX_QUBITS < n {
         return GateAction::TooManyQubits;
     }
     let count = n + n;
@@ -199,16 +213,16 @@ pub fn gate_action(n: u64, bytes: &[u8], out: &mut [u64]) -> GateAction
         let a = bytes[at + 1];
         let b = bytes[at + 2];
         match question(n, g, a, b) {
-            Verdict::Passed => {
+            GateQuestion::Passed => {
                 act = after_gate(act, g, a, b);
             }
-            Verdict::UnknownGate => {
+            GateQuestion::UnknownGate => {
                 return GateAction::UnknownGate;
             }
-            Verdict::QubitTooHigh => {
+            GateQuestion::QubitTooHigh => {
                 return GateAction::QubitTooHigh;
             }
-            Verdict::EqualQubits => {
+            GateQuestion::EqualQubits => {
                 return GateAction::EqualQubits;
             }
         }

@@ -10,9 +10,10 @@ use native.Mathlib.Nat.{eq-or-lt-of-le, le-of-suc-le-suc}
 use lib.Dec.{eqb, leb, ltb}
 use lib.ListN.{length}
 use borrow.Author.Tests.{ltb-true, leb-true, eqb-true, lt-ltb, le-ltb, le-leb, lt-leb, eq-eqb, ne-eqb}
+use Rattle.symplectic.specs.Actions.{maxQubits}
 use Rattle.symplectic.specs.Replies.{ask, sizeQuestion}
 use Rattle.symplectic.proofs.Questions.{ask-passed, size-refused, size-passed, size-known}
-use Rattle.job.specs.Files.{qubitCount, entryCount, Entry, entry, partSize, entryPasses, entriesPass, fileQuestions}
+use Rattle.job.specs.Files.{longestFile, headSize, entrySize, qubitCount, entryCount, Entry, entry, partSize, entryPasses, entriesPass, fileQuestions}
 
 no-second : (a b : Bool) → b ≡ false → (a && b) ≡ false
 no-second true b e = e
@@ -75,7 +76,7 @@ module _ (file : List ℕ) where
 
 module _ (file : List ℕ) where
   lengthPasses : Bool
-  lengthPasses = leb 4 (length file) && (leb (length file) 65536 && leb (4 + 8 * entryCount file) (length file))
+  lengthPasses = leb headSize (length file) && (leb (length file) longestFile && leb (headSize + entrySize * entryCount file) (length file))
 
   last : ℕ
   last = ask (entriesPass file (entryCount file)) 13 0
@@ -84,34 +85,34 @@ module _ (file : List ℕ) where
   unfolding fileQuestions lengthPasses last
   refused-length e = ap (λ (b : Bool). ask b 12 (sizeQuestion (qubitCount file) last)) e
 
-  pub file-short : length file < 4 → fileQuestions file ≡ 12
+  pub file-short : length file < headSize → fileQuestions file ≡ 12
   unfolding lengthPasses
   file-short h =
-      refused-length (ap (λ (b : Bool). b && (leb (length file) 65536 && leb (4 + 8 * entryCount file) (length file))) (lt-leb 4 (length file) h))
+      refused-length (ap (λ (b : Bool). b && (leb (length file) longestFile && leb (headSize + entrySize * entryCount file) (length file))) (lt-leb headSize (length file) h))
 
-  pub file-long : 65536 < length file → fileQuestions file ≡ 12
+  pub file-long : longestFile < length file → fileQuestions file ≡ 12
   unfolding lengthPasses
   file-long h =
       refused-length
-      (no-second (leb 4 (length file)) _ (ap (λ (b : Bool). b && leb (4 + 8 * entryCount file) (length file)) (lt-leb (length file) 65536 h)))
+      (no-second (leb headSize (length file)) _ (ap (λ (b : Bool). b && leb (headSize + entrySize * entryCount file) (length file)) (lt-leb (length file) longestFile h)))
 
-  pub file-cut : length file < 4 + 8 * entryCount file → fileQuestions file ≡ 12
+  pub file-cut : length file < headSize + entrySize * entryCount file → fileQuestions file ≡ 12
   unfolding lengthPasses
   file-cut h =
-      refused-length (no-second (leb 4 (length file)) _ (no-second (leb (length file) 65536) _ (lt-leb (4 + 8 * entryCount file) (length file) h)))
+      refused-length (no-second (leb headSize (length file)) _ (no-second (leb (length file) longestFile) _ (lt-leb (headSize + entrySize * entryCount file) (length file) h)))
 
-  module _ (low : 4 ≤ length file) (high : length file ≤ 65536) (whole : 4 + 8 * entryCount file ≤ length file) where
+  module _ (low : headSize ≤ length file) (high : length file ≤ longestFile) (whole : headSize + entrySize * entryCount file ≤ length file) where
     sized : fileQuestions file ≡ sizeQuestion (qubitCount file) last
     unfolding fileQuestions last
     sized =
-        ap (λ (b : Bool). ask (b && (leb (length file) 65536 && leb (4 + 8 * entryCount file) (length file))) 12 (sizeQuestion (qubitCount file) last)) (le-leb 4 (length file) low)
-        ∙ ap (λ (b : Bool). ask (b && leb (4 + 8 * entryCount file) (length file)) 12 (sizeQuestion (qubitCount file) last)) (le-leb (length file) 65536 high)
-        ∙ ap (λ (b : Bool). ask b 12 (sizeQuestion (qubitCount file) last)) (le-leb (4 + 8 * entryCount file) (length file) whole)
+        ap (λ (b : Bool). ask (b && (leb (length file) longestFile && leb (headSize + entrySize * entryCount file) (length file))) 12 (sizeQuestion (qubitCount file) last)) (le-leb headSize (length file) low)
+        ∙ ap (λ (b : Bool). ask (b && leb (headSize + entrySize * entryCount file) (length file)) 12 (sizeQuestion (qubitCount file) last)) (le-leb (length file) longestFile high)
+        ∙ ap (λ (b : Bool). ask b 12 (sizeQuestion (qubitCount file) last)) (le-leb (headSize + entrySize * entryCount file) (length file) whole)
 
-    pub file-wide : 32 < qubitCount file → fileQuestions file ≡ 1
+    pub file-wide : maxQubits < qubitCount file → fileQuestions file ≡ 1
     file-wide h = sized ∙ size-refused (qubitCount file) last h
 
-    pub file-entries : qubitCount file ≤ 32 → (b : Bool) → entriesPass file (entryCount file) ≡ b → fileQuestions file ≡ ask b 13 0
+    pub file-entries : qubitCount file ≤ maxQubits → (b : Bool) → entriesPass file (entryCount file) ≡ b → fileQuestions file ≡ ask b 13 0
     unfolding last
     file-entries h b e = sized ∙ size-passed (qubitCount file) last h ∙ ap (λ (t : Bool). ask t 13 0) e
 
@@ -121,10 +122,10 @@ module _ (file : List ℕ) where
     unfolding fileQuestions lengthPasses last
     behind-length = ask-passed lengthPasses 11 (sizeQuestion (qubitCount file) last) passed
 
-    behind-size : (qubitCount file ≤ 32) × (last ≡ 0)
+    behind-size : (qubitCount file ≤ maxQubits) × (last ≡ 0)
     behind-size = size-known (qubitCount file) last (behind-length .1)
 
-    pub passed-qubits : qubitCount file ≤ 32
+    pub passed-qubits : qubitCount file ≤ maxQubits
     passed-qubits = behind-size .0
 
     pub passed-entry : (i : ℕ) → i < entryCount file → entryPasses file (entry file i) ≡ true

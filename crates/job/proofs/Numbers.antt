@@ -7,8 +7,7 @@ use native.Mathlib.Omega.{arith}
 use native.Mathlib.Nat.{pow-suc, pow-le-pow-right, zero-add, suc-add, sub-self}
 use lib.ListN.{length, getD, take, drop, drop-of-length-le}
 use lib.Seq.{take-nil, drop-nil, take-take, drop-drop}
-use Rattle.job.specs.Files.{littleEndian, part, number, Entry, entry, itemSize, partSize}
-use Rattle.job.specs.Answers.{Bytes}
+use Rattle.job.specs.Files.{headSize, entrySize, littleEndian, part, number, Entry, entry, itemSize, partSize}
 
 -- ---- the first byte, and the others
 
@@ -44,11 +43,6 @@ seven-bytes v size h k =
     let m : 256 ^ size ≤ 256 ^ 7 = pow-le-pow-right {n = 256} (omega arith) {i = size} {j = 7} (omega arith) in
     omega arith
 
-module _ (file : List ℕ) (bytes : Bytes file) where
-  pub number-below : (size from : ℕ) → number file from size < 256 ^ size
-  number-below zero from = rw (number-none file from) (omega arith)
-  number-below (suc size) from = rw (number-step file from size) (bound-more _ _ size (suc size) refl (bytes from) (number-below size (suc from)))
-
 -- ---- a number read from its last byte: before the first byte that is read, and behind the last
 
 pub reading-starts : (file : List ℕ) (from size : ℕ) → (0 ≡ number file from (size - size)) × (0 < 256 ^ (size - size))
@@ -67,24 +61,24 @@ pub number-past : (file : List ℕ) (from size : ℕ) → length file ≤ from �
 unfolding number part littleEndian
 number-past file from size h = ap (λ (l : List ℕ). littleEndian (take size l)) (drop-of-length-le file h) ∙ ap littleEndian (take-nil size)
 
-pub entry-past : (file : List ℕ) (i : ℕ) → length file ≤ 4 + 8 * i → entry file i ≡ record { kind = 0; zeroByte = 0; count = 0; offset = 0 }
+pub entry-past : (file : List ℕ) (i : ℕ) → length file ≤ headSize + entrySize * i → entry file i ≡ record { kind = 0; zeroByte = 0; count = 0; offset = 0 }
 unfolding entry
 entry-past file i h =
     simp (
-      number-past file (4 + 8 * i) 1 h,
-      number-past file (4 + 8 * i + 1) 1 (omega arith),
-      number-past file (4 + 8 * i + 2) 2 (omega arith),
-      number-past file (4 + 8 * i + 4) 4 (omega arith),
+      number-past file (headSize + entrySize * i) 1 h,
+      number-past file (headSize + entrySize * i + 1) 1 (omega arith),
+      number-past file (headSize + entrySize * i + 2) 2 (omega arith),
+      number-past file (headSize + entrySize * i + 4) 4 (omega arith),
     )
 
 -- ---- an entry by its numbers
 
-pub entry-read : (file : List ℕ) (i a b c d : ℕ) → a ≡ number file (4 + 8 * i) 1 → b ≡ number file (4 + (8 * i + 1)) 1
-    → c ≡ number file (4 + (8 * i + 2)) 2 → d ≡ number file (4 + (8 * i + 4)) 4
+pub entry-read : (file : List ℕ) (i a b c d : ℕ) → a ≡ number file (headSize + entrySize * i) 1 → b ≡ number file (headSize + (entrySize * i + 1)) 1
+    → c ≡ number file (headSize + (entrySize * i + 2)) 2 → d ≡ number file (headSize + (entrySize * i + 4)) 4
     → record { kind = a; zeroByte = b; count = c; offset = d } ≡ entry file i
 unfolding entry
 entry-read file i a b c d ea eb ec ed =
-    let at : (k : ℕ) → 4 + (8 * i + k) ≡ 4 + 8 * i + k = λ k. omega arith in
+    let at : (k : ℕ) → headSize + (entrySize * i + k) ≡ headSize + entrySize * i + k = λ k. omega arith in
     simp (ea, eb, ec, ed, at 1, at 2, at 4)
 
 pub part-rows : (e : Entry) → e .kind ≡ 0 → partSize e ≡ 8 * e .count
@@ -99,7 +93,31 @@ part-gates e h = ap (λ (s : ℕ). s * e .count) (size (e .kind) h)
     size zero z = absurd (z refl)
     size (suc k) z = refl
 
--- ---- a part of a part
+pub part-le : (e : Entry) → partSize e ≤ 8 * e .count
+unfolding partSize
+part-le e = go (e .kind)
+  where
+    go : (k : ℕ) → itemSize k * e .count ≤ 8 * e .count
+    go zero = omega arith
+    go (suc k) = omega arith
+
+-- ---- parts
+
+-- as the code cuts one
+pub part-cut : (file : List ℕ) (offset size : ℕ) → take (offset + size - offset) (drop offset file) ≡ part file offset size
+unfolding part
+part-cut file offset size = let left : offset + size - offset ≡ size = omega arith in ap (λ (k : ℕ). take k (drop offset file)) left
+
+-- numbers of a file's front, and of what is left of it
+pub number-front : (file : List ℕ) (size : ℕ) → littleEndian (take size file) ≡ number file 0 size
+unfolding number part
+number-front file size = refl
+
+pub number-drop : (file : List ℕ) (skip from size : ℕ) → number (drop skip file) from size ≡ number file (skip + from) size
+unfolding number part
+number-drop file skip from size = ap (λ (l : List ℕ). littleEndian (take size l)) (drop-drop from skip file)
+
+-- a part of a part
 
 drop-take : (l : List ℕ) (skip size : ℕ) → drop skip (take (skip + size) l) ≡ take size (drop skip l)
 drop-take l zero size = simp zero-add

@@ -1,21 +1,16 @@
--- What the code's entry and the answer of the file's questions say; and what a list of bytes is.
+-- What the code's entry and the answer of the file's questions say. Both are plain readings, open to users.
 -- Assumes nothing.
-use mathlib.Core.List.{List}
-use Prim.Native.Nat.{ℕ, _<_}
-use lib.ListN.{getD}
+use Prim.Native.Nat.{ℕ}
 use Rattle.job.specs.Files.{Entry}
 use Rattle.job.specs.declared.Item.{Item}
 use Rattle.job.specs.declared.FileAnswer.{FileAnswer}
 use Rattle.job.specs.declared.FileAnswer.the-variants.{Passed, BadLength, TooManyQubits, BadEntry}
 
-abbrev pub Bytes : List ℕ → Type 0
-Bytes file = (i : ℕ) → getD file i 0 < 256
-
-unfoldable pub entryOf : Item → Entry
+abbrev pub entryOf : Item → Entry
 entryOf e = record { kind = e .kind; zeroByte = e .«zero_byte»; count = e .count; offset = e .offset }
 
 -- document 01's number of the question that was answered no; 0 where all were passed
-unfoldable pub numberOf : FileAnswer → ℕ
+abbrev pub numberOf : FileAnswer → ℕ
 numberOf Passed = 0
 numberOf BadLength = 12
 numberOf TooManyQubits = 1

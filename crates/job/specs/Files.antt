@@ -7,6 +7,16 @@ use lib.Dec.{eqb, leb, ltb}
 use lib.ListN.{length, take, drop}
 use Rattle.symplectic.specs.Replies.{ask, sizeQuestion}
 
+-- the most bytes of a file, those before its entries, and those of an entry. Plain numbers, open to users
+abbrev pub longestFile : ℕ
+longestFile = 65536
+
+abbrev pub headSize : ℕ
+headSize = 4
+
+abbrev pub entrySize : ℕ
+entrySize = 8
+
 -- a little-endian number
 unfoldable pub littleEndian : List ℕ → ℕ
 littleEndian [] = 0
@@ -35,7 +45,7 @@ pub record Entry : Type 0 where
 
 unfoldable pub entry : List ℕ → ℕ → Entry
 entry file i =
-    let at = 4 + 8 * i in
+    let at = headSize + entrySize * i in
     record { kind = number file at 1; zeroByte = number file (at + 1) 1; count = number file (at + 2) 2; offset = number file (at + 4) 4 }
 
 -- action rows take 8 bytes, gates 3
@@ -55,8 +65,8 @@ unfoldable pub entriesPass : List ℕ → ℕ → Bool
 entriesPass file zero = true
 entriesPass file (suc k) = entriesPass file k && entryPasses file (entry file k)
 
--- 12: is it 4 to 65,536 bytes and at least 4 + 8k? 1: is n at most 32? Then 13, for each entry
+-- 12: is it 4 to 65,536 bytes and at least 4 + 8k? 1: is n at most the most qubits? Then 13, for each entry
 unfoldable pub fileQuestions : List ℕ → ℕ
 fileQuestions file =
-    ask (leb 4 (length file) && (leb (length file) 65536 && leb (4 + 8 * entryCount file) (length file))) 12
+    ask (leb headSize (length file) && (leb (length file) longestFile && leb (headSize + entrySize * entryCount file) (length file))) 12
     (sizeQuestion (qubitCount file) (ask (entriesPass file (entryCount file)) 13 0))

@@ -6,12 +6,22 @@ ghost use lib.ListN.{getD};
 ghost use Rattle.job.specs.Files.{number as numberIn, qubitCount, entryCount, entry, partSize, entryPasses, entriesPass, fileQuestions};
 ghost use Rattle.job.specs.Answers.{entryOf, numberOf};
 
-// An entry of the file.
+// The most bytes of a file, those before its entries, and those of an entry.
+const LONGEST_FILE: u64 = 65536;
+
+const HEAD_SIZE: u64 = 4;
+
+const ENTRY_SIZE: u64 = 8;
+
+// The last index of an entry or of a word whose place, 8 times the index, fits 64 bits. No file reaches past it.
+const LAST_INDEX: u64 = 2305843009213693951;
+
+// An entry of the file, in the file's sizes.
 pub struct Item {
-    pub kind: u64,
-    pub zero_byte: u64,
-    pub count: u64,
-    pub offset: u64,
+    pub kind: u8,
+    pub zero_byte: u8,
+    pub count: u16,
+    pub offset: u32,
 }
 
 // Which question of the file is answered no, if any.
@@ -41,7 +51,7 @@ fn byte_at(file: &[u8], from: u64, i: u64) -> u64
 
 // The little-endian number of at most 8 bytes that stands `skip` bytes behind `from`.
 fn number(file: &[u8], from: u64, skip: u64, size: u64) -> u64
-    requires { ⌜ (size ≤ 8) × (skip + size ≤ 18446744073709551616) ⌝ }
+    requires { ⌜ (size ≤ 8) × (skip + size ≤ 2 ^ 64) ⌝ }
     ensures { λ r. ⌜ (r ≡ numberIn (now (file .entry)) (from + skip) size) × (r < 256 ^ size) ⌝ }
 {
     let mut v: u64 = 0;
@@ -55,7 +65,7 @@ fn number(file: &[u8], from: u64, skip: u64, size: u64) -> u64
 }
 
 pub fn qubit_count(file: &[u8]) -> u64
-    ensures { λ r. ⌜ (r ≡ qubitCount (now (file .entry))) × (r < 65536) ⌝ }
+    ensures { λ r. ⌜ r ≡ qubitCount (now (file .entry)) ⌝ }
 {
     number(file, 0, 0, 2)
 }
@@ -70,7 +80,7 @@ pub fn entry_count(file: &[u8]) -> u64
 pub fn word_at(file: &[u8], offset: u64, k: u64) -> u64
     ensures { λ r. ⌜ r ≡ numberIn (now (file .entry)) (offset + 8 * k) 8 ⌝ }
 {
-    if 2305843009213693951 < k {
+    if LAST_INDEX < k {
         return 0;
     }
     number(file, offset, 8 * k, 8)
@@ -80,9 +90,9 @@ pub fn word_at(file: &[u8], offset: u64, k: u64) -> u64
 
 // Entry i. Past the end, all 0.
 pub fn entry_at(file: &[u8], i: u64) -> Item
-    ensures { λ r. ⌜ (entryOf r ≡ entry (now (file .entry)) i) × (r .count < 65536) × (r .offset < 4294967296) ⌝ }
+    ensures { λ r. ⌜ entryOf r ≡ entry (now (file .entry)) i ⌝ }
 {
-    if 2305843009213693951 < i {
+    if LAST_INDEX < i {
         return Item {
             kind: 0,
             zero_byte: 0,
@@ -90,26 +100,28 @@ pub fn entry_at(file: &[u8], i: u64) -> Item
             offset: 0,
         };
     }
-    let at = 8 * i;
+    let at = ENTRY_SIZE * i;
+    let kind = number(file, HEAD_SIZE, at, 1) as u8;
+    let zero_byte = number(file, HEAD_SIZE, at + 1, 1) as u8;
+    let count = number(file, HEAD_SIZE, at + 2, 2) as u16;
+    let offset = number(file, HEAD_SIZE, at + 4, 4) as u32;
     Item {
-        kind: number(file, 4, at, 1),
-        zero_byte: number(file, 4, at + 1, 1),
-        count: number(file, 4, at + 2, 2),
-        offset: number(file, 4, at + 4, 4),
+        kind: kind,
+        zero_byte: zero_byte,
+        count: count,
+        offset: offset,
     }
 }
 
 // The bytes of an entry's part: 8 for a row, 3 for a gate.
 pub fn part_size(e: Item) -> u64
-    ensures { λ r. ⌜ (e .count < 65536 → (r ≡ partSize (entryOf e)) × (r < 524288)) ⌝ }
+    ensures { λ r. ⌜ r ≡ partSize (entryOf e) ⌝ }
 {
-    if 65535 < e.count {
-        return 0;
-    }
+    let count = e.count as u64;
     if e.kind == 0 {
-        return 8 * e.count;
+        return 8 * count;
     }
-    3 * e.count
+    3 * count
 }
 
 // ---- questions
@@ -120,7 +132,7 @@ fn entry_passes(file: &[u8], i: u64) -> bool
 {
     let length = file.len() as u64;
     let e = entry_at(file, i);
-    let end = e.offset + part_size(e);
+    let end = e.offset as u64 + part_size(e);
     if 1 < e.kind {
         return false;
     }
@@ -146,17 +158,17 @@ pub fn file_questions(file: &[u8]) -> FileAnswer
     ensures { λ r. ⌜ numberOf r ≡ fileQuestions (now (file .entry)) ⌝ }
 {
     let length = file.len() as u64;
-    if length < 4 {
+    if length < HEAD_SIZE {
         return FileAnswer::BadLength;
     }
-    if 65536 < length {
+    if LONGEST_FILE < length {
         return FileAnswer::BadLength;
     }
     let k = entry_count(file);
-    if length < 4 + 8 * k {
+    if length < HEAD_SIZE + ENTRY_SIZE * k {
         return FileAnswer::BadLength;
     }
-    if 32 < qubit_count(file) {
+    if symplectic::MAX_QUBITS < qubit_count(file) {
         return FileAnswer::TooManyQubits;
     }
     if !entries_pass(file, k) {

@@ -9,12 +9,12 @@ use lib.ListN.{length, length-append}
 use Rattle.binar.specs.Bits.{_⊻_}
 use Rattle.blocks.specs.Matrices.{All}
 use Rattle.blocks.proofs.All.{All·map}
-use Rattle.linear.specs.Space.{Space, scale}
+use Rattle.linear.specs.VectorSpace.{VectorSpace, scale}
 use Rattle.linear.specs.Span.{InSpan, Indep}
 use Rattle.linear.proofs.Sums.{add-zero, left-comm, self-left, cancel-right, swap4, scale-xor}
 
-module _ (S : Space) where
-  open Space S using (Car, add as _⊕_, o, add-assoc, add-comm, add-self, zero-add)
+module _ (S : VectorSpace) where
+  open VectorSpace S using (Car, add as _⊕_, o, add-assoc, add-comm, add-self, zero-add)
 
   infixl 60 _⊕_
   pub span-zero : (vs : List Car) → InSpan S vs o

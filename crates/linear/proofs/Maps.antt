@@ -5,7 +5,7 @@ use mathlib.Core.Bool.{Bool, true, false, false≢true, Bool·beq}
 use mathlib.Core.List.{List, [], _∷_, map}
 use Rattle.binar.specs.Bits.{_⊻_}
 use Rattle.blocks.specs.Matrices.{All}
-use Rattle.linear.specs.Space.{Space, scale}
+use Rattle.linear.specs.VectorSpace.{VectorSpace, scale}
 use Rattle.linear.specs.Span.{InSpan, Indep}
 use Rattle.linear.specs.Maps.{Additive, Pairing}
 use Rattle.linear.proofs.Sums.{add-zero, scale-o, cancel-right}
@@ -17,7 +17,7 @@ same-of-beq true false e = absurd (false≢true e)
 same-of-beq false true e = absurd (false≢true e)
 same-of-beq false false e = refl
 
-module _ (S T : Space) (f : S .Car → T .Car) (f-add : Additive S T f) where
+module _ (S T : VectorSpace) (f : S .Car → T .Car) (f-add : Additive S T f) where
   pub map-o : f (S .o) ≡ T .o
   map-o =
       sym (cancel-right T (f (S .o)) (f (S .o))) ∙ ap (λ t. T .add t (f (S .o))) (sym (f-add (S .o) (S .o)) ∙ ap f (S .zero-add (S .o)))
@@ -59,5 +59,5 @@ module _ (S T : Space) (f : S .Car → T .Car) (f-add : Additive S T f) where
     indep-map inj vs (i .1),
   )
 
-pub pairing-left : (S : Space) (ω : Pairing S) (y : S .Car) → Additive S 𝔹 (λ x. ω .at x y)
+pub pairing-left : (S : VectorSpace) (ω : Pairing S) (y : S .Car) → Additive S 𝔹 (λ x. ω .at x y)
 pairing-left S ω y a b = ω .comm (S .add a b) y ∙ ω .right y a b ∙ ap₂ _⊻_ (ω .comm y a) (ω .comm y b)

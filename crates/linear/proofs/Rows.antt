@@ -5,16 +5,18 @@ use mathlib.Core.Bool.{Bool, true, false, true≢false}
 use mathlib.Core.List.{List, [], _∷_, map}
 use Prim.Native.Nat.{ℕ, zero, suc, _+_, _*_, _/_, _%_, _^_, _<_}
 use native.Mathlib.Omega.{arith}
-use native.Mathlib.Nat.{add-zero, pow-suc, mod-lt}
+use native.Mathlib.Nat.{pow-suc, mod-lt}
 use lib.Arith.{lt-one}
 use lib.Pow.{pow-pos}
 use lib.ListN.{length}
 use Rattle.binar.specs.Bits.{_⊕_, odd, digit}
-use Rattle.binar.proofs.Digits.{digit-lt, odd-digit, half-digit, by-digits, odd-sum}
+use Rattle.binar.proofs.Digits.{digit-lt, odd-digit, half-digit, by-digits, odd-one, odd-double, odd-sum}
 use Rattle.binar.proofs.Sums.{sum-lt, sum-up, parts-sum, by-parts}
 use Rattle.blocks.specs.Matrices.{times, units, All}
 use Rattle.blocks.proofs.All.{All·any, All·to-map}
-use Rattle.linear.specs.Space.{Space, scale}
+use Rattle.blocks.proofs.Products.{times-nil, times-cons}
+use Rattle.blocks.proofs.Units.{units-zero, units-suc}
+use Rattle.linear.specs.VectorSpace.{VectorSpace, scale}
 use Rattle.linear.specs.Span.{InSpan, Indep}
 use Rattle.linear.specs.Maps.{Additive}
 use Rattle.linear.proofs.Sums.{cancel-right}
@@ -24,26 +26,25 @@ use Rattle.linear.proofs.Maps.{map-o, map-at, span-map, span-kernel, in
 -- ---- times
 
 pub times-in : (c : ℕ) (M : List ℕ) → InSpan 𝕎 M (times c M)
-unfolding times
-times-in c [] = refl
-times-in c (v ∷ M) = (odd c, rw (cancel-right 𝕎) (times-in (c / 2) M))
+times-in c [] = times-nil c
+times-in c (v ∷ M) = (odd c, rw (times-cons, cancel-right 𝕎) (times-in (c / 2) M))
 
 -- every member of the span is drawn
 pub drawn : (M : List ℕ) (x : ℕ) → InSpan 𝕎 M x → (c : ℕ) × (c < 2 ^ length M) × (times c M ≡ x)
-unfolding times
-drawn [] x h = (0, omega arith, sym h)
+drawn [] x h = (0, omega arith, times-nil 0 ∙ sym h)
 drawn (v ∷ M) x (b, h) =
     let r = drawn M (x ⊕ scale 𝕎 b v) h in (
       r .0 * 2 + digit b,
       omega (arith, digit-lt b, r .1, pow-suc 2 (length M)),
-      ap₂ (λ q t. times q M ⊕ scale 𝕎 t v) (half-digit b (r .0)) (odd-digit b (r .0)) ∙ ap (λ t. t ⊕ scale 𝕎 b v) (r .2)
-          ∙ cancel-right 𝕎 x (scale 𝕎 b v),
+      times-cons (r .0 * 2 + digit b) v M ∙ ap₂ (λ q t. times q M ⊕ scale 𝕎 t v) (half-digit b (r .0)) (odd-digit b (r .0))
+          ∙ ap (λ t. t ⊕ scale 𝕎 b v) (r .2) ∙ cancel-right 𝕎 x (scale 𝕎 b v),
     )
 
 pub map-times : (f : ℕ → ℕ) → Additive 𝕎 𝕎 f → (M : List ℕ) (c : ℕ) → f (times c M) ≡ times c (map f M)
-unfolding times
-map-times f a [] c = map-o 𝕎 𝕎 f a
-map-times f a (v ∷ M) c = map-at 𝕎 𝕎 f a (times (c / 2) M) (odd c) v ∙ ap (λ t. t ⊕ scale 𝕎 (odd c) (f v)) (map-times f a M (c / 2))
+map-times f a [] c = ap f (times-nil c) ∙ map-o 𝕎 𝕎 f a ∙ sym (times-nil c)
+map-times f a (v ∷ M) c =
+    ap f (times-cons c v M) ∙ map-at 𝕎 𝕎 f a (times (c / 2) M) (odd c) v
+    ∙ ap (λ t. t ⊕ scale 𝕎 (odd c) (f v)) (map-times f a M (c / 2)) ∙ sym (times-cons c (f v) (map f M))
 
 -- ---- the unit rows
 
@@ -61,27 +62,23 @@ by-double z = ap (λ t. dbl (z / 2) ⊕ t) (one (odd z)) ∙ parts-sum 1 (z / 2)
     one false = refl
 
 pub units-span : (m z : ℕ) → z < 2 ^ m → InSpan 𝕎 (units m) z
-unfolding units
-units-span zero z h = lt-one h
-units-span (suc m) z h = (
+units-span zero z h = rw units-zero (lt-one h)
+units-span (suc m) z h = rw units-suc (
   odd z,
   subst (InSpan 𝕎 (map dbl (units m))) (sym (ap (λ t. t ⊕ scale 𝕎 (odd z) 1) (sym (by-double z)) ∙ cancel-right 𝕎 (dbl (z / 2)) (scale 𝕎 (odd z) 1)))
       (span-map 𝕎 𝕎 dbl dbl-add (units m) (z / 2) (units-span m (z / 2) (omega arith))),
 )
 
-even : (u : ℕ) → odd (dbl u) ≡ false
-even u = ap odd (sym (add-zero (dbl u))) ∙ odd-digit false u
-
 pub units-indep : (m : ℕ) → Indep 𝕎 (units m)
-unfolding units odd
-units-indep zero = tt
-units-indep (suc m) = (
-  λ h. true≢false (span-kernel 𝕎 𝔹 odd odd-sum (map dbl (units m)) (All·to-map dbl (λ u. odd u ≡ false) (units m) (All·any even (units m))) 1 h),
+units-indep zero = rw units-zero tt
+units-indep (suc m) = rw units-suc (
+  λ h. true≢false (sym odd-one
+      ∙ span-kernel 𝕎 𝔹 odd odd-sum (map dbl (units m)) (All·to-map dbl (λ u. odd u ≡ false) (units m) (All·any odd-double (units m))) 1 h),
   indep-map 𝕎 𝕎 dbl dbl-add (λ x y e. omega arith) (units m) (units-indep m),
 )
 
 -- an additive map that is zero on the units, and on the multiples of 2 ^ m
-pub zero-by-units : (T : Space) (f : ℕ → T .Car) → Additive 𝕎 T f → (m : ℕ) → All (λ u. f u ≡ T .o) (units m) → ((h : ℕ) → f (h * 2 ^ m) ≡ T .o) → (z : ℕ) → f z ≡ T .o
+pub zero-by-units : (T : VectorSpace) (f : ℕ → T .Car) → Additive 𝕎 T f → (m : ℕ) → All (λ u. f u ≡ T .o) (units m) → ((h : ℕ) → f (h * 2 ^ m) ≡ T .o) → (z : ℕ) → f z ≡ T .o
 zero-by-units T f a m e k z =
     ap f (by-parts m z)
     ∙ a (z / 2 ^ m * 2 ^ m) (z % 2 ^ m)

@@ -3,10 +3,10 @@
 use mathlib.Core.Path.{_≡_, refl, sym, ap, _∙_}
 use mathlib.Core.Bool.{Bool, true, false}
 use Rattle.binar.specs.Bits.{_⊻_}
-use Rattle.linear.specs.Space.{Space, scale}
+use Rattle.linear.specs.VectorSpace.{VectorSpace, scale}
 
-module _ (S : Space) where
-  open Space S using (Car, add as _⊕_, o, add-assoc, add-comm, add-self, zero-add)
+module _ (S : VectorSpace) where
+  open VectorSpace S using (Car, add as _⊕_, o, add-assoc, add-comm, add-self, zero-add)
 
   infixl 60 _⊕_
   pub add-zero : (x : Car) → x ⊕ o ≡ x

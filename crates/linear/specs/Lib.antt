@@ -1,4 +1,4 @@
-pub mod Space
+pub mod VectorSpace
 pub mod Span
 pub mod Maps
 pub mod Triangular

@@ -3,10 +3,10 @@
 use mathlib.Core.Path.{_≡_}
 use mathlib.Core.Bool.{Bool}
 use mathlib.Core.List.{List, [], _∷_}
-use Rattle.linear.specs.Space.{Space, scale}
+use Rattle.linear.specs.VectorSpace.{VectorSpace, scale}
 
-module _ (S : Space) where
-  open Space S using (Car, add as _⊕_, o)
+module _ (S : VectorSpace) where
+  open VectorSpace S using (Car, add as _⊕_, o)
 
   infixl 60 _⊕_
   -- x is a sum of members of the list: the head is taken or not, and the tail has the rest

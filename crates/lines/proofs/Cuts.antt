@@ -35,28 +35,25 @@ cut-four r x y z a b c d p q = cut-next r x y z (a ++ b ++ c ++ d) p (q ∙ ap (
 
 -- ---- the bytes of a line
 
-pub bytes-length : (l : Line) → length (l .bytes) ≡ 4608 → length (bytesOf l) ≡ min (l .count) 4608
+pub bytes-length : (l : Line) → length (l .bytes) ≡ lineRoom → length (bytesOf l) ≡ min (l .count) lineRoom
 unfolding bytesOf
 bytes-length l h = length-take (l .count) (l .bytes) ∙ ap (min (l .count)) h
 
-pub bytes-whole : (l : Line) → length (l .bytes) ≡ 4608 → take lineRoom (bytesOf l) ≡ bytesOf l
-unfolding lineRoom
-bytes-whole l h = take-all 4608 (bytesOf l) (omega (arith, bytes-length l h))
+pub bytes-whole : (l : Line) → length (l .bytes) ≡ lineRoom → take lineRoom (bytesOf l) ≡ bytesOf l
+bytes-whole l h = take-all lineRoom (bytesOf l) (omega (arith, bytes-length l h))
 
 -- one byte more, where there is room and where there is none
-pub push-more : (l : List ℕ) (k b : ℕ) → length l ≡ 4608 → k < 4608 → take (k + 1) (set l k b) ≡ take lineRoom (take k l ++ (b ∷ []))
-unfolding lineRoom
+pub push-more : (l : List ℕ) (k b : ℕ) → length l ≡ lineRoom → k < lineRoom → take (k + 1) (set l k b) ≡ take lineRoom (take k l ++ (b ∷ []))
 push-more l k b h g =
     ap (λ (j : ℕ). take j (set l k b)) (add-one k) ∙ take-suc-set l k b (omega arith)
-    ∙ sym (take-all 4608 (take k l ++ (b ∷ [])) (omega (arith, length-append (take k l) (b ∷ []), length-take-le k l (omega arith))))
+    ∙ sym (take-all lineRoom (take k l ++ (b ∷ [])) (omega (arith, length-append (take k l) (b ∷ []), length-take-le k l (omega arith))))
 
-pub push-full : (l : List ℕ) (k b : ℕ) → length l ≡ 4608 → 4608 ≤ k → take k l ≡ take lineRoom (take k l ++ (b ∷ []))
-unfolding lineRoom
-push-full l k b h g = sym (take-at (take k l) (b ∷ []) 4608 (ap length (take-all k l (omega arith)) ∙ h))
+pub push-full : (l : List ℕ) (k b : ℕ) → length l ≡ lineRoom → lineRoom ≤ k → take k l ≡ take lineRoom (take k l ++ (b ∷ []))
+push-full l k b h g = sym (take-at (take k l) (b ∷ []) lineRoom (ap length (take-all k l (omega arith)) ∙ h))
 
 -- ---- a text written in place behind the bytes of a line: m bytes of it fit
 
-module _ (b : Line) (text : List ℕ) (k m : ℕ) (long : length (b .bytes) ≡ 4608) (kept : k ≡ min (b .count) 4608) (fit : m ≡ min (length text) (4608 - k)) where
+module _ (b : Line) (text : List ℕ) (k m : ℕ) (long : length (b .bytes) ≡ lineRoom) (kept : k ≡ min (b .count) lineRoom) (fit : m ≡ min (length text) (lineRoom - k)) where
   kept-length : length (bytesOf b) ≡ k
   kept-length = bytes-length b long ∙ sym kept
 
@@ -66,7 +63,7 @@ module _ (b : Line) (text : List ℕ) (k m : ℕ) (long : length (b .bytes) ≡ 
       ap (λ (j : ℕ). take j (b .bytes)) (add-zero k ∙ sym kept-length) ∙ take-counted (b .count) (b .bytes)
       ∙ sym (ap (λ (j : ℕ). take j (bytesOf b ++ text)) (add-zero k) ∙ take-at (bytesOf b) text k kept-length)
 
-  pub write-more : (q v : ℕ) (n : List ℕ) → length n ≡ 4608 → q < m → v ≡ getD text q 0 → take (k + q) n ≡ take (k + q) (bytesOf b ++ text) → take (k + (q + 1)) (set n (k + q) v) ≡ take (k + (q + 1)) (bytesOf b ++ text)
+  pub write-more : (q v : ℕ) (n : List ℕ) → length n ≡ lineRoom → q < m → v ≡ getD text q 0 → take (k + q) n ≡ take (k + q) (bytesOf b ++ text) → take (k + (q + 1)) (set n (k + q) v) ≡ take (k + (q + 1)) (bytesOf b ++ text)
   write-more q v n h g e w =
       let next : k + (q + 1) ≡ suc (k + q) = omega arith in
       let whole = bytesOf b ++ text in
@@ -76,8 +73,7 @@ module _ (b : Line) (text : List ℕ) (k m : ℕ) (long : length (b .bytes) ≡ 
       ∙ sym (ap (λ (j : ℕ). take j whole) next ∙ take-suc whole (k + q) 0 (omega (arith, length-append (bytesOf b) text, kept-length)))
 
   pub write-all : (q : ℕ) (n : List ℕ) → q ≡ m → take (k + q) n ≡ take (k + q) (bytesOf b ++ text) → take (k + m) n ≡ take lineRoom (bytesOf b ++ text)
-  unfolding lineRoom
   write-all q n d w =
       let whole = bytesOf b ++ text in
-      let e : k + q ≡ length (take 4608 whole) = omega (arith, length-take 4608 whole, length-append (bytesOf b) text, kept-length) in
-      ap (λ (j : ℕ). take (k + j) n) (sym d) ∙ w ∙ ap (λ (j : ℕ). take j whole) e ∙ take-counted 4608 whole
+      let e : k + q ≡ length (take lineRoom whole) = omega (arith, length-take lineRoom whole, length-append (bytesOf b) text, kept-length) in
+      ap (λ (j : ℕ). take (k + j) n) (sym d) ∙ w ∙ ap (λ (j : ℕ). take j whole) e ∙ take-counted lineRoom whole

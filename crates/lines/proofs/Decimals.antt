@@ -13,7 +13,7 @@ use lib.Arith.{digits-div, digits-mod}
 use borrow.Author.Tests.{lt-ltb, le-ltb, ltb-true}
 use Rattle.lines.specs.Lines.{decimalIn, decimal}
 use Rattle.lines.specs.declared.Tally.{Tally}
-use Rattle.lines.specs.Bytes.{tallied}
+use Rattle.lines.specs.inner.Tallies.{tallied}
 
 -- ---- more digits than the number itself has change nothing
 

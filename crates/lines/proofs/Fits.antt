@@ -1,15 +1,18 @@
--- A line of at most 32 qubits and 130 vectors fits its room, and so does the line of a refused file.
+-- A line of at most the most qubits and as many vectors as the longest list has fits its room, and so does the line of a refused file.
 -- Assumes nothing.
-use mathlib.Core.Path.{_≡_}
+use mathlib.Core.Path.{_≡_, refl, ap, ap₂, _∙_}
 use mathlib.Core.List.{List, [], _∷_, _++_}
-use Prim.Native.Nat.{ℕ, zero, suc, _^_, _≤_, _<_}
+use Prim.Native.Nat.{ℕ, suc, _+_, _*_, _^_, _≤_, _<_}
 use native.Mathlib.Nat.{mul-le-mul-left, mul-le-mul-right}
 use native.Mathlib.Omega.{arith}
-use lib.ListN.{length, getD, take, length-append}
+use lib.ListN.{length, take, length-append, length-take}
 use lib.Seq.{take-all}
 use Rattle.blocks.specs.Matrices.{All}
 use Rattle.blocks.specs.Words.{rowsOfWords}
-use Rattle.symplectic.specs.Replies.{Reply}
+use Rattle.blocks.proofs.Values.{rows-count}
+use Rattle.symplectic.specs.declared.Figures.{Figures}
+use Rattle.symplectic.specs.Actions.{maxQubits}
+use Rattle.symplectic.specs.Replies.{Reply, refused}
 use Rattle.lines.specs.Lines.{decimal, field, load, space, newline, spelled, line, fileLine}
 use Rattle.lines.specs.declared.Name.{Name}
 use Rattle.lines.specs.declared.Name.the-variants.{Min, Greedy}
@@ -17,16 +20,9 @@ use Rattle.lines.specs.Bytes.{lineRoom, nameBytes}
 use Rattle.lines.proofs.Decimals.{decimal-length}
 use Rattle.lines.proofs.Spelling.{spelled-length, load-le}
 
--- ---- words below a bound
-
-pub all-below : (b : ℕ) (l : List ℕ) → ((i : ℕ) → i < length l → getD l i 0 < b) → All (λ v. v < b) l
-all-below b [] h = tt
-all-below b (v ∷ l) h = (h 0 (omega arith), all-below b l (λ i g. h (suc i) (omega arith)))
-
-pub all-take : (b k : ℕ) (l : List ℕ) → All (λ v. v < b) l → All (λ v. v < b) (take k l)
-all-take b zero l h = tt
-all-take b (suc k) [] h = tt
-all-take b (suc k) (v ∷ l) h = (h .0, all-take b k l (h .1))
+-- the longest list: a greedy one of the most qubits
+abbrev pub mostVectors : ℕ
+mostVectors = 4 * maxQubits + 2
 
 -- ---- the parts
 
@@ -37,49 +33,76 @@ pub name-length : (w : Name) → length (nameBytes w) ≤ 6
 name-length Min = omega arith
 name-length Greedy = omega arith
 
--- ---- the lines
+module _ (n : ℕ) (vs : List ℕ) (few : n ≤ maxQubits) (short : length vs ≤ mostVectors) where
+  -- a vector takes a space and its letters
+  spelled-short : length (spelled n vs) ≤ mostVectors * suc maxQubits
+  spelled-short =
+      let bound : suc n ≤ suc maxQubits = omega arith in
+      omega (arith, spelled-length n vs, mul-le-mul-left (length vs) bound, mul-le-mul-right (suc maxQubits) short)
+
+  load-short : All (λ v. v < 2 ^ (n + n)) vs → load vs < 2 ^ 64
+  load-short a =
+      let bound : n + n ≤ maxQubits + maxQubits = omega arith in
+      omega (arith, load-le (n + n) vs a, mul-le-mul-left (length vs) bound)
+
+-- ---- the line of a refused file
 
 pub file-fits : (number : ℕ) → number < 2 ^ 64 → length (fileLine number) ≤ 26
 unfolding fileLine
 file-fits number h = omega (arith, length-append (decimal number) (newline ∷ []), decimal-short number h)
 
-spelled-short : (n : ℕ) (vs : List ℕ) → n ≤ 32 → length vs ≤ 130 → length (spelled n vs) ≤ 4290
-spelled-short n vs h g =
-    let bound : suc n ≤ 33 = omega arith in
-    omega (arith, spelled-length n vs, mul-le-mul-left (length vs) bound, mul-le-mul-right 33 g)
+-- ---- the line of an answer
 
-load-short : (m : ℕ) (vs : List ℕ) → m ≤ 2 ^ 32 → All (λ v. v < 2 ^ m) vs → length vs ≤ 130 → load vs < 2 ^ 64
-load-short m vs w a g = omega (arith, load-le m vs a, mul-le-mul-left (length vs) w)
+-- a refusal lists no vectors, whatever the words
+pub refused-alike : (n i : ℕ) (name : List ℕ) (k looks : ℕ) (out left : List ℕ) → line n i name (refused k looks out) ≡ line n i name (refused k looks left)
+unfolding line
+refused-alike n i name k looks out left = refl
 
--- the vectors' width m only bounds the load
-module _ (n i : ℕ) (name : List ℕ) (r : Reply) (few : n ≤ 32) (entry : i < 2 ^ 64) (short : length name ≤ 6) (refusal : r .number < 2 ^ 64) (counted : r .count < 2 ^ 64) (looked : r .looks < 2 ^ 64) (m : ℕ) (wide : m ≤ 2 ^ 32) where
-  pub line-fits : length (take (r .count) (rowsOfWords (r .words))) ≤ 130 → All (λ v. v < 2 ^ m) (take (r .count) (rowsOfWords (r .words))) → length (line n i name r) ≤ lineRoom
-  unfolding line lineRoom
-  line-fits g a =
-      let vs = take (r .count) (rowsOfWords (r .words)) in
+module _ (n i : ℕ) (name : List ℕ) (r : Reply) (few : n ≤ maxQubits) (entry : i < 2 ^ 64) (named : length name ≤ 6) (refusal : r .figures .number < 2 ^ 64) (counted : r .figures .count < 2 ^ 64) (looked : r .figures .looks < 2 ^ 64) (short : length (r .words) ≤ mostVectors) where
+  abbrev vectors : List ℕ
+  vectors = take (r .figures .count) (rowsOfWords n (r .words))
+
+  vectors-short : length vectors ≤ mostVectors
+  vectors-short = omega (arith, length-take (r .figures .count) (rowsOfWords n (r .words)), rows-count n (r .words))
+
+  line-fits : All (λ v. v < 2 ^ (n + n)) vectors → length (line n i name r) ≤ lineRoom
+  unfolding line
+  line-fits below =
       let a0 = decimal i in
       let a1 = a0 ++ (space ∷ name) in
-      let a2 = a1 ++ field (r .number) in
-      let a3 = a2 ++ field (r .count) in
-      let a4 = a3 ++ field (load vs) in
-      let a5 = a4 ++ field (r .looks) in
-      let a6 = a5 ++ spelled n vs in
+      let a2 = a1 ++ field (r .figures .number) in
+      let a3 = a2 ++ field (r .figures .count) in
+      let a4 = a3 ++ field (load vectors) in
+      let a5 = a4 ++ field (r .figures .looks) in
+      let a6 = a5 ++ spelled n vectors in
       omega (
         arith,
         length-append a6 (newline ∷ []),
-        length-append a5 (spelled n vs),
-        length-append a4 (field (r .looks)),
-        length-append a3 (field (load vs)),
-        length-append a2 (field (r .count)),
-        length-append a1 (field (r .number)),
+        length-append a5 (spelled n vectors),
+        length-append a4 (field (r .figures .looks)),
+        length-append a3 (field (load vectors)),
+        length-append a2 (field (r .figures .count)),
+        length-append a1 (field (r .figures .number)),
         length-append a0 (space ∷ name),
         decimal-short i entry,
-        decimal-short (r .number) refusal,
-        decimal-short (r .count) counted,
-        decimal-short (load vs) (load-short m vs wide a g),
-        decimal-short (r .looks) looked,
-        spelled-short n vs few g,
+        decimal-short (r .figures .number) refusal,
+        decimal-short (r .figures .count) counted,
+        decimal-short (load vectors) (load-short n vectors few vectors-short below),
+        decimal-short (r .figures .looks) looked,
+        spelled-short n vectors few vectors-short,
       )
 
-  pub line-whole : length (take (r .count) (rowsOfWords (r .words))) ≤ 130 → All (λ v. v < 2 ^ m) (take (r .count) (rowsOfWords (r .words))) → take lineRoom (line n i name r) ≡ line n i name r
-  line-whole g a = take-all lineRoom (line n i name r) (line-fits g a)
+  pub line-whole : All (λ v. v < 2 ^ (n + n)) (take (r .figures .count) (rowsOfWords n (r .words))) → take lineRoom (line n i name r) ≡ line n i name r
+  line-whole below = take-all lineRoom (line n i name r) (line-fits below)
+
+-- by the figures that a call answers and the words that it leaves
+module _ (n i : ℕ) (which : Name) (t : Figures) (words : List ℕ) (few : n ≤ maxQubits) (entry : i < 2 ^ 64) (reply : Reply) where
+  pub line-figures : (t .number < 2 ^ 64) × (t .count < 2 ^ 64) × (t .looks < 2 ^ 64) → length words ≤ mostVectors
+      → All (λ v. v < 2 ^ (n + n)) (take (reply .figures .count) (rowsOfWords n (reply .words))) → t ≡ reply .figures → words ≡ reply .words
+      → take lineRoom (line n i (nameBytes which) (record { figures = t; words = words })) ≡ line n i (nameBytes which) reply
+  line-figures bounds short below e d =
+      ap (λ (r : Reply). take lineRoom (line n i (nameBytes which) r)) same
+      ∙ line-whole n i (nameBytes which) reply few entry (name-length which) (rw e at (bounds .0)) (rw e at (bounds .1)) (rw e at (bounds .2)) (rw d at short) below
+    where
+      same : _≡_ {A = Reply} (record { figures = t; words = words }) reply
+      same = ap₂ (λ (f : Figures) (w : List ℕ). record { figures = f; words = w }) e d

@@ -6,11 +6,11 @@ use Prim.Native.Nat.{ℕ, zero, suc, _+_, _*_, _/_, _^_, _≤_, _<_}
 use native.Mathlib.Nat.{le-of-suc-le-suc, not-suc-le-zero, zero-add, add-zero, add-suc, suc-add, suc-mul}
 use native.Mathlib.Numerals.{add-one}
 use native.Mathlib.Omega.{arith}
-use lib.Pow.{shr-shr}
 use lib.Count.{ones-le}
 use lib.ListN.{length, getD, take, drop, length-append}
 use lib.Seq.{take-suc, drop-cons}
-use Rattle.binar.specs.Bits.{odd, bit, weight}
+use Rattle.binar.specs.Bits.{bit, weight}
+use Rattle.binar.proofs.Digits.{bit-down}
 use Rattle.binar.proofs.Dots.{weight-ones}
 use Rattle.blocks.specs.Matrices.{All}
 use Rattle.lines.specs.Lines.{letter, lettersFrom, letters, load, space, spelled}
@@ -35,12 +35,9 @@ letters-length n v = from-length n v n 0
 
 -- the letter of qubit q, its z among the columns from n up
 pub letters-at : (n v q : ℕ) → q < n → letter (bit q v) (bit q (v / 2 ^ n)) ≡ getD (letters n v) q 0
-unfolding letters bit
+unfolding letters
 letters-at n v q h =
-    ap (letter (bit q v)) (down n v q) ∙ sym (from-at n v n 0 q h ∙ ap (λ (j : ℕ). letter (bit j v) (bit (n + j) v)) (zero-add q))
-  where
-    down : (n v q : ℕ) → bit q (v / 2 ^ n) ≡ bit (n + q) v
-    down n v q = ap odd (shr-shr v n q)
+    ap (letter (bit q v)) (bit-down n q v) ∙ sym (from-at n v n 0 q h ∙ ap (λ (j : ℕ). letter (bit j v) (bit (n + j) v)) (zero-add q))
 
 -- ---- vectors
 

@@ -53,19 +53,23 @@ spelled n (v ∷ vs) = space ∷ (letters n v ++ spelled n vs)
 abbrev pub field : ℕ → List ℕ
 field v = space ∷ decimal v
 
--- `min` and `greedy`
+-- `min`, `greedy` and `file`
 abbrev pub minName : List ℕ
 minName = 109 ∷ 105 ∷ 110 ∷ []
 
 abbrev pub greedyName : List ℕ
 greedyName = 103 ∷ 114 ∷ 101 ∷ 101 ∷ 100 ∷ 121 ∷ []
 
+abbrev pub fileWord : List ℕ
+fileWord = 102 ∷ 105 ∷ 108 ∷ 101 ∷ []
+
 -- entry number, name, refusal, vector count, load, looks, then each vector; a refused line has count and load 0, no letters
 unfoldable pub line : ℕ → ℕ → List ℕ → Reply → List ℕ
 line n i name reply =
-    let vs = take (reply .count) (rowsOfWords (reply .words)) in
-    decimal i ++ (space ∷ name) ++ field (reply .number) ++ field (reply .count) ++ field (load vs) ++ field (reply .looks) ++ spelled n vs ++ (newline ∷ [])
+    let figures = reply .figures in
+    let vs = take (figures .count) (rowsOfWords n (reply .words)) in
+    decimal i ++ (space ∷ name) ++ field (figures .number) ++ field (figures .count) ++ field (load vs) ++ field (figures .looks) ++ spelled n vs ++ (newline ∷ [])
 
 -- a refused file prints only `file` and the number
 unfoldable pub fileLine : ℕ → List ℕ
-fileLine number = 102 ∷ 105 ∷ 108 ∷ 101 ∷ field number ++ (newline ∷ [])
+fileLine number = fileWord ++ field number ++ (newline ∷ [])

@@ -1,7 +1,7 @@
 // A line of the printout, by value. Each function writes behind the bytes that a line has.
 // Not in the source.
 use binar::Row;
-use symplectic::Told;
+use symplectic::Figures;
 ghost use mathlib.Core.Path.{_≡_};
 ghost use mathlib.Core.List.{[], _∷_, _++_};
 ghost use Prim.Native.Nat.{_+_};
@@ -9,11 +9,14 @@ ghost use lib.ListN.{take};
 ghost use Rattle.binar.specs.Rows.{val};
 ghost use Rattle.blocks.specs.Words.{rowsOfWords};
 ghost use Rattle.lines.specs.Lines.{decimal as decimalOf, letter as letterOf, letters as lettersOf, load as loadOf, space, spelled as spelledOf, field as fieldOf, line as lineOf, fileLine};
-ghost use Rattle.lines.specs.Bytes.{lineRoom, bytesOf, nameBytes, tallied, replyOf};
+ghost use Rattle.lines.specs.Bytes.{lineRoom, bytesOf, nameBytes};
+ghost use Rattle.lines.specs.inner.Tallies.{tallied};
 
-// Room for the longest line: 130 vectors of 32 letters. What does not fit is cut.
+// How many bytes a line has room for: the longest greedy list fits. What does not fit is cut.
+pub const LINE_ROOM: usize = 4608;
+
 pub struct Line {
-    pub bytes: [u8; 4608],
+    pub bytes: [u8; LINE_ROOM],
     pub count: usize,
 }
 
@@ -24,15 +27,15 @@ pub enum Name {
 
 // A number as its tens and its last digit: a load may pass 64 bits.
 struct Tally {
-    pub tens: u64,
-    pub unit: u64,
+    tens: u64,
+    unit: u64,
 }
 
 pub fn empty() -> Line
     ensures { λ r. ⌜ bytesOf r ≡ [] ⌝ }
 {
     Line {
-        bytes: [0; 4608],
+        bytes: [0; LINE_ROOM],
         count: 0,
     }
 }
@@ -41,7 +44,7 @@ fn push(l: Line, b: u8) -> Line
     ensures { λ r. ⌜ bytesOf r ≡ take lineRoom (bytesOf l ++ (b ∷ [])) ⌝ }
 {
     let k = l.count;
-    if k < 4608 {
+    if k < LINE_ROOM {
         let mut n = l;
         n.bytes[k] = b;
         n.count = k + 1;
@@ -54,8 +57,8 @@ fn push(l: Line, b: u8) -> Line
 fn append(l: Line, text: &[u8]) -> Line
     ensures { λ r. ⌜ bytesOf r ≡ take lineRoom (bytesOf l ++ now (text .entry)) ⌝ }
 {
-    let k = blocks::lesser(l.count, 4608);
-    let m = blocks::lesser(text.len(), 4608 - k);
+    let k = blocks::lesser(l.count, LINE_ROOM);
+    let m = blocks::lesser(text.len(), LINE_ROOM - k);
     let mut n = l;
     for q in 0..m {
         n.bytes[k + q] = text[q];
@@ -114,8 +117,8 @@ fn letter(x: bool, z: bool) -> u8
 fn letters(l: Line, n: usize, v: Row) -> Line
     ensures { λ r. ⌜ bytesOf r ≡ take lineRoom (bytesOf l ++ lettersOf n (val v)) ⌝ }
 {
-    let k = blocks::lesser(l.count, 4608);
-    let m = blocks::lesser(n, 4608 - k);
+    let k = blocks::lesser(l.count, LINE_ROOM);
+    let m = blocks::lesser(n, LINE_ROOM - k);
     let high = binar::shift_down(v, n);
     let mut out = l;
     for q in 0..m {
@@ -125,9 +128,9 @@ fn letters(l: Line, n: usize, v: Row) -> Line
     out
 }
 
-// Each vector, after a space.
+// Each vector of n qubits, after a space.
 fn spelled(l: Line, n: usize, words: &[u64]) -> Line
-    ensures { λ r. ⌜ bytesOf r ≡ take lineRoom (bytesOf l ++ spelledOf n (rowsOfWords (now (words .entry)))) ⌝ }
+    ensures { λ r. ⌜ bytesOf r ≡ take lineRoom (bytesOf l ++ spelledOf n (rowsOfWords n (now (words .entry)))) ⌝ }
 {
     let mut out = l;
     for i in 0..words.len() {
@@ -136,9 +139,9 @@ fn spelled(l: Line, n: usize, words: &[u64]) -> Line
     out
 }
 
-// The count of ones in the vectors.
-fn load(words: &[u64]) -> Tally
-    ensures { λ r. ⌜ tallied r ≡ loadOf (rowsOfWords (now (words .entry))) ⌝ }
+// The count of ones in the vectors of n qubits.
+fn load(n: usize, words: &[u64]) -> Tally
+    ensures { λ r. ⌜ tallied r ≡ loadOf (rowsOfWords n (now (words .entry))) ⌝ }
 {
     let mut tens: u64 = 0;
     let mut unit: u64 = 0;
@@ -162,23 +165,24 @@ fn front(i: u64, which: Name) -> Line
 }
 
 // The refusal, the vector count, the load and the looks.
-fn numbers(l: Line, told: Told, load: Tally) -> Line
-    ensures { λ r. ⌜ bytesOf r ≡ take lineRoom (bytesOf l ++ fieldOf (told .number) ++ fieldOf (told .count) ++ fieldOf (tallied load) ++ fieldOf (told .looks)) ⌝ }
+fn numbers(l: Line, figures: Figures, load: Tally) -> Line
+    ensures { λ r. ⌜ bytesOf r ≡ take lineRoom (bytesOf l ++ fieldOf (figures .number) ++ fieldOf (figures .count) ++ fieldOf (tallied load) ++ fieldOf (figures .looks)) ⌝ }
 {
-    let looks = tally_of(told.looks);
-    let number = field(l, tally_of(told.number));
-    let count = field(number, tally_of(told.count));
+    let looks = tally_of(figures.looks);
+    let number = field(l, tally_of(figures.number));
+    let count = field(number, tally_of(figures.count));
     field(field(count, load), looks)
 }
 
-// The line of entry i, of n qubits.
-pub fn entry_line(n: u64, i: u64, which: Name, told: Told, words: &[u64]) -> Line
-    ensures { λ r. ⌜ bytesOf r ≡ take lineRoom (lineOf n i (nameBytes which) (replyOf told (now (words .entry)))) ⌝ }
+// The line of entry i, of n qubits: the figures of a call's answer, and the words that it left.
+pub fn entry_line(n: u64, i: u64, which: Name, figures: Figures, words: &[u64]) -> Line
+    ensures { λ r. ⌜ bytesOf r ≡ take lineRoom (lineOf n i (nameBytes which) (record { figures = figures; words = now (words .entry) })) ⌝ }
 {
-    let k = blocks::lesser(told.count as usize, words.len());
+    let m = n as usize;
+    let k = blocks::lesser(figures.count as usize, words.len());
     let vs = &words[..k];
-    let head = numbers(front(i, which), told, load(vs));
-    push(spelled(head, n as usize, vs), 10)
+    let head = numbers(front(i, which), figures, load(m, vs));
+    push(spelled(head, m, vs), 10)
 }
 
 // The one line of a refused file.

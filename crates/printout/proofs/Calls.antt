@@ -32,7 +32,7 @@ blank-front (suc k) (suc m) h = ap (λ (l : List ℕ). 0 ∷ l) (blank-front k m
 -- the vectors of a greedy answer
 pub greedy-below : (n : ℕ) (words out : List ℕ)
     → All (λ v. v < 2 ^ (n + n)) (take (greedyReply n words out .count) (rowsOfWords (greedyReply n words out .words)))
-unfolding greedyReply refused listed
+unfolding greedyReply
 greedy-below n words out = go (listQuestions n (rowsOfWords words) (4 * n + 2) (length out)) refl
   where
     vs : List ℕ
@@ -49,12 +49,10 @@ greedy-below n words out = go (listQuestions n (rowsOfWords words) (4 * n + 2) (
 -- ---- a call keeps the count of the lent words
 
 kept : (asked : ℕ) (out : List ℕ) (answer : Reply) → length (answer .words) ≡ length out → length (unlessRefused asked out answer .words) ≡ length out
-unfolding refused
 kept zero out answer e = e
 kept (suc k) out answer e = refl
 
 listed-kept : (vs : List ℕ) (looks : ℕ) (out : List ℕ) → length (listed vs looks out .words) ≡ length out
-unfolding listed
 listed-kept vs looks out = laid-length vs out
 
 pub gates-kept : (n : ℕ) (bytes out : List ℕ) → length (gatesReply n bytes out .words) ≡ length out
@@ -66,12 +64,10 @@ unfolding greedyReply
 greedy-kept n words out = kept (listQuestions n (rowsOfWords words) (4 * n + 2) (length out)) out _ (listed-kept (greedyList n (rowsOfWords words)) 0 out)
 
 bordered-kept : (o : Option (List ℕ)) (looks : ℕ) (out : List ℕ) → length (borderedReply o looks out .words) ≡ length out
-unfolding refused
 bordered-kept none looks out = refl
 bordered-kept (some vs) looks out = listed-kept vs looks out
 
 searched-kept : (n : ℕ) (F : List ℕ) (v : Verdict) (out : List ℕ) → length (searchedReply n F v out .words) ≡ length out
-unfolding refused
 searched-kept n F (ended (found ps looks)) out = listed-kept (map (λ p. times p (basis n F)) ps) looks out
 searched-kept n F (ended (failed looks)) out = bordered-kept (borderedList n F) looks out
 searched-kept n F (spent looks) out = refl

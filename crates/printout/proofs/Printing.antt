@@ -8,11 +8,11 @@ use native.Mathlib.Omega.{arith}
 use lib.ListN.{length, take, length-take}
 use Rattle.blocks.specs.Matrices.{All}
 use Rattle.blocks.specs.Words.{rowsOfWords}
-use Rattle.symplectic.specs.declared.Told.{Told}
-use Rattle.symplectic.specs.Replies.{Reply, toldOf, refused}
+use Rattle.symplectic.specs.declared.Figures.{Figures}
+use Rattle.symplectic.specs.Replies.{Reply, refused}
 use Rattle.lines.specs.Lines.{line}
 use Rattle.lines.specs.declared.Name.{Name}
-use Rattle.lines.specs.Bytes.{lineRoom, nameBytes, replyOf}
+use Rattle.lines.specs.Bytes.{lineRoom, nameBytes}
 use Rattle.lines.proofs.Fits.{line-whole, name-length}
 use Rattle.printout.specs.declared.Loaded.{Loaded}
 use Rattle.printout.specs.Printout.{unlessRefusedAction}
@@ -20,7 +20,7 @@ use Rattle.printout.specs.Loads.{Loads}
 
 -- a refused line has no vectors, whatever the words
 refused-alike : (n i : ℕ) (name : List ℕ) (k : ℕ) (out : List ℕ) → line n i name (refused k 0 []) ≡ line n i name (refused k 0 out)
-unfolding line refused rowsOfWords
+unfolding line rowsOfWords
 refused-alike n i name k out = refl
 
 -- ---- by what was loaded
@@ -52,26 +52,26 @@ module _ (n i : ℕ) (name : List ℕ) (call : List ℕ → Reply) (action : Rep
 
 -- ---- by what a call tells and leaves
 
-module _ (n i : ℕ) (which : Name) (t : Told) (words : List ℕ) (few : n ≤ 32) (entry : i < 2 ^ 64) (reply : Reply) where
+module _ (n i : ℕ) (which : Name) (t : Figures) (words : List ℕ) (few : n ≤ 32) (entry : i < 2 ^ 64) (reply : Reply) where
   -- the vectors' width m only bounds the load
-  pub line-told : (t .number < 2 ^ 64) × (t .count < 2 ^ 64) × (t .looks < 2 ^ 64) → (m : ℕ) → m ≤ 2 ^ 32 → length words ≤ 130
+  pub line-figures : (t .number < 2 ^ 64) × (t .count < 2 ^ 64) × (t .looks < 2 ^ 64) → (m : ℕ) → m ≤ 2 ^ 32 → length words ≤ 130
       → All (λ v. v < 2 ^ m) (take (reply .count) (rowsOfWords (reply .words)))
-      → t ≡ toldOf reply → words ≡ reply .words
+      → t ≡ reply .figures → words ≡ reply .words
       → take lineRoom (line n i (nameBytes which) (replyOf t words)) ≡ line n i (nameBytes which) reply
-  unfolding rowsOfWords toldOf
-  line-told bounds m wide short below e d =
+  unfolding rowsOfWords
+  line-figures bounds m wide short below e d =
       ap (λ (r : Reply). take lineRoom (line n i (nameBytes which) r)) same
       ∙ line-whole n i (nameBytes which) reply few entry (name-length which) (omega (arith, bounds .0, number)) (omega (arith, bounds .1, count)) (omega (arith, bounds .2, looks)) m wide
       (omega (arith, length-take (reply .count) (reply .words), ap length d)) below
     where
       number : t .number ≡ reply .number
-      number = ap (λ (x : Told). x .number) e
+      number = ap (λ (x : Figures). x .number) e
 
       count : t .count ≡ reply .count
-      count = ap (λ (x : Told). x .count) e
+      count = ap (λ (x : Figures). x .count) e
 
       looks : t .looks ≡ reply .looks
-      looks = ap (λ (x : Told). x .looks) e
+      looks = ap (λ (x : Figures). x .looks) e
 
       same : replyOf t words ≡ reply
       same = simp (number, count, looks, d)

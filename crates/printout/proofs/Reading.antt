@@ -21,12 +21,12 @@ use Rattle.printout.specs.Entries.{readable, minLineAt, greedyLineAt}
 
 module _ (file : List ℕ) (i : ℕ) where
   pub readable-wide : 32 < qubitCount file → readable file i ≡ false
-  unfolding readable maxQubits
+  unfolding readable
   readable-wide h = ap (λ (b : Bool). b && (ltb i (entryCount file) && entryPasses file (entry file i))) (lt-leb (qubitCount file) 32 h)
 
   module _ (few : qubitCount file ≤ 32) where
     behind-size : readable file i ≡ (ltb i (entryCount file) && entryPasses file (entry file i))
-    unfolding readable maxQubits
+    unfolding readable
     behind-size = ap (λ (b : Bool). b && (ltb i (entryCount file) && entryPasses file (entry file i))) (le-leb (qubitCount file) 32 few)
 
     pub readable-past : entryCount file ≤ i → readable file i ≡ false
@@ -36,7 +36,7 @@ module _ (file : List ℕ) (i : ℕ) where
     readable-entry h = behind-size ∙ ap (λ (b : Bool). b && entryPasses file (entry file i)) (lt-ltb i (entryCount file) h)
 
   pub readable-known : readable file i ≡ true → (qubitCount file ≤ 32) × (entryPasses file (entry file i) ≡ true)
-  unfolding readable maxQubits
+  unfolding readable
   readable-known e =
       let k = and-eq-true-iff (leb (qubitCount file) 32) (ltb i (entryCount file) && entryPasses file (entry file i)) .0 e in
       (leb-true (qubitCount file) 32 (k .0), and-eq-true-iff (ltb i (entryCount file)) (entryPasses file (entry file i)) .0 (k .1) .1)

@@ -69,10 +69,10 @@ fn made(n: u64, bytes: &[u8]) -> Loaded
     let mut rows: [u64; 64] = [0; 64];
     let m = (n + n) as usize;
     let a = gates::gate_action(n, bytes, &mut rows[..m]);
-    let told = gates::tell(a);
+    let figures = gates::figures_of(a);
     Loaded {
         rows: rows,
-        number: told.number,
+        number: figures.number,
     }
 }
 
@@ -104,7 +104,17 @@ fn refusal_line(n: u64, i: u64, which: Name, number: u64) -> Line
     ensures { λ r. ⌜ bytesOf r ≡ line n i (nameBytes which) (refused number 0 []) ⌝ }
 {
     let none: [u64; 1] = [0; 1];
-    lines::entry_line(n, i, which, symplectic::telling(number, 0, 0), &none[..0])
+    lines::entry_line(
+        n,
+        i,
+        which,
+        Figures {
+            number: number,
+            count: 0,
+            looks: 0,
+        },
+        &none[..0],
+    )
 }
 
 // ---- greedy
@@ -119,7 +129,7 @@ fn greedy_answer(n: u64, i: u64, l: Loaded) -> Line
     let m = (n + n) as usize;
     let k = (4 * n + 2) as usize;
     let a = transvection::clifford_to_transvections(n, &rows[..m], &mut out[..k]);
-    lines::entry_line(n, i, Name::Greedy, transvection::tell(a), &out[..k])
+    lines::entry_line(n, i, Name::Greedy, transvection::figures_of(a), &out[..k])
 }
 
 // The line of entry i's greedy list. Where there is no entry i that passes, the empty line.
@@ -154,7 +164,13 @@ fn min_answer(n: u64, i: u64, l: Loaded) -> Line
         1000000,
         &mut out[..k],
     );
-    lines::entry_line(n, i, Name::Min, transvection_exact::tell(a), &out[..k])
+    lines::entry_line(
+        n,
+        i,
+        Name::Min,
+        transvection_exact::figures_of(a),
+        &out[..k],
+    )
 }
 
 // The line of entry i's minimal list. Where there is no entry i that passes, the empty line.

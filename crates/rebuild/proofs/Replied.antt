@@ -1,44 +1,40 @@
 -- What a rebuild replies: each refusal in its turn, and the whole product where every question is passed.
 -- Assumes nothing.
-use mathlib.Core.Path.{_≡_, sym, ap, _∙_}
+use mathlib.Core.Path.{_≡_, refl, sym, ap, _∙_}
 use mathlib.Core.Bool.{Bool, true, false}
 use mathlib.Core.List.{List}
 use Prim.Native.Nat.{ℕ, suc, _+_, _≤_, _<_}
 use lib.ListN.{length}
 use Rattle.blocks.specs.Words.{rowsOfWords, laid}
+use Rattle.blocks.proofs.Values.{rows-count}
+use Rattle.symplectic.specs.Actions.{maxQubits}
 use Rattle.symplectic.specs.Turns.{product}
-use Rattle.symplectic.specs.declared.Told.{Told}
-use Rattle.symplectic.specs.Replies.{Reply, toldOf, refused, listed, ask, fitAll, Rebuilds}
+use Rattle.symplectic.specs.declared.Figures.{Figures}
+use Rattle.symplectic.specs.Replies.{Reply, refused, listed, ask, fitAll, Rebuilds}
 use Rattle.symplectic.proofs.Products.{product-length}
-use Rattle.symplectic.proofs.Questions.{size-refused, size-passed, size-known, count-refused, count-passed, count-known, ask-passed}
+use Rattle.symplectic.proofs.Questions.{fit-all, size-refused, size-passed, size-known, count-refused, count-passed, count-known, ask-passed}
 use Rattle.symplectic.proofs.Answered.{Meets, Holds, meets-refused, meets-answer, rebuilds}
-use Rattle.rebuild.specs.declared.Rebuilt.the-variants.{Rows}
-use Rattle.rebuild.specs.Answers.{told}
+use Rattle.rebuild.specs.declared.Rebuilt.the-variants.{Rows, TooManyQubits, WrongRowCount, VectorTooWide}
+use Rattle.rebuild.specs.Answers.{figuresOf}
 use Rattle.rebuild.specs.Rebuilds.{rebuildQuestions, rebuildReply}
 
 -- ---- the questions
 
 module _ (n : ℕ) (vs rows : List ℕ) where
-  pub asked-1 : 32 < n → rebuildQuestions n vs rows ≡ 1
+  asked-1 : maxQubits < n → rebuildQuestions n vs rows ≡ 1
   unfolding rebuildQuestions
   asked-1 h = size-refused n _ h
 
-  pub asked-2 : n ≤ 32 → (length rows ≡ n + n → ⊥) → rebuildQuestions n vs rows ≡ 2
+  asked-2 : n ≤ maxQubits → (length rows ≡ n + n → ⊥) → rebuildQuestions n vs rows ≡ 2
   unfolding rebuildQuestions
   asked-2 h k = size-passed n _ h ∙ count-refused n _ rows k
 
-  counted : n ≤ 32 → length rows ≡ n + n → rebuildQuestions n vs rows ≡ ask (fitAll (n + n) vs) 8 0
+  counted : n ≤ maxQubits → length rows ≡ n + n → rebuildQuestions n vs rows ≡ ask (fitAll (n + n) vs) 8 0
   unfolding rebuildQuestions
   counted h e = size-passed n _ h ∙ count-passed n _ rows e
 
-  pub asked-8 : n ≤ 32 → length rows ≡ n + n → fitAll (n + n) vs ≡ false → rebuildQuestions n vs rows ≡ 8
-  asked-8 h e f = counted h e ∙ ap (λ (b : Bool). ask b 8 0) f
-
-  pub asked-passed : n ≤ 32 → length rows ≡ n + n → fitAll (n + n) vs ≡ true → rebuildQuestions n vs rows ≡ 0
-  asked-passed h e f = counted h e ∙ ap (λ (b : Bool). ask b 8 0) f
-
   -- what is known where every question is passed
-  pub asked-known : rebuildQuestions n vs rows ≡ 0 → (n ≤ 32) × (length rows ≡ n + n) × (fitAll (n + n) vs ≡ true)
+  asked-known : rebuildQuestions n vs rows ≡ 0 → (n ≤ maxQubits) × (length rows ≡ n + n) × (fitAll (n + n) vs ≡ true)
   unfolding rebuildQuestions
   asked-known e =
       let size = size-known n _ e in
@@ -49,26 +45,43 @@ module _ (n : ℕ) (vs rows : List ℕ) where
 
 module _ (n : ℕ) (list out : List ℕ) where
   abbrev asked : ℕ
-  asked = rebuildQuestions n (rowsOfWords list) (rowsOfWords out)
+  asked = rebuildQuestions n (rowsOfWords n list) (rowsOfWords n out)
 
-  abbrev Promised : List ℕ → Told → Type 0
-  Promised = Rebuilds n (rowsOfWords list)
+  abbrev Promised : List ℕ → Figures → Type 0
+  Promised = Rebuilds n (rowsOfWords n list)
 
   abbrev answer : Reply
-  answer = listed (product n (rowsOfWords list)) 0 out
+  answer = listed n (product n (rowsOfWords n list)) 0 out
 
-  pub rebuild-rebuilds : Holds Promised (rebuildReply n list out)
+  rebuild-rebuilds : Holds Promised (rebuildReply n list out)
   unfolding rebuildReply
-  rebuild-rebuilds = rebuilds n (rowsOfWords list) asked out (λ e. asked-known n (rowsOfWords list) (rowsOfWords out) e .1)
+  rebuild-rebuilds =
+      rebuilds n (rowsOfWords n list) asked out
+      (λ e. let known = asked-known n (rowsOfWords n list) (rowsOfWords n out) e in (known .0, (fit-all (n + n) (rowsOfWords n list) (known .2), known .1)))
 
-  pub rebuild-refused : (k : ℕ) (t : Told) → rebuildQuestions n (rowsOfWords list) (rowsOfWords out) ≡ suc k → t ≡ toldOf (refused (suc k) 0 out) → Meets Promised (rebuildReply n list out) out t
+  rebuild-refused : (k : ℕ) (t : Figures) → rebuildQuestions n (rowsOfWords n list) (rowsOfWords n out) ≡ suc k → t ≡ refused (suc k) 0 out .figures → Meets Promised (rebuildReply n list out) out t
   unfolding rebuildReply
   rebuild-refused k t = meets-refused Promised asked out answer rebuild-rebuilds t k
 
-  -- an answer lays the product into the words
-  pub rebuild-listed : (count : ℕ) (left : List ℕ) → rebuildQuestions n (rowsOfWords list) (rowsOfWords out) ≡ 0 → count ≡ n + n → left ≡ laid (product n (rowsOfWords list)) out
-      → Meets Promised (rebuildReply n list out) left (told (Rows count))
-  unfolding rebuildReply listed toldOf told
-  rebuild-listed count left e c l =
-      meets-answer Promised asked out answer rebuild-rebuilds (told (Rows count)) e left
-      (ap (λ (k : ℕ). told (Rows k)) (c ∙ sym (product-length n (rowsOfWords list)))) l
+  pub rebuild-1 : maxQubits < n → Meets Promised (rebuildReply n list out) out (figuresOf TooManyQubits)
+  rebuild-1 h = rebuild-refused 0 (figuresOf TooManyQubits) (asked-1 n (rowsOfWords n list) (rowsOfWords n out) h) refl
+
+  module _ (size : n ≤ maxQubits) where
+    pub rebuild-2 : (length out ≡ n + n → ⊥) → Meets Promised (rebuildReply n list out) out (figuresOf WrongRowCount)
+    rebuild-2 h =
+        rebuild-refused 1 (figuresOf WrongRowCount) (asked-2 n (rowsOfWords n list) (rowsOfWords n out) size (λ e. h (sym (rows-count n out) ∙ e))) refl
+
+    module _ (lent : length out ≡ n + n) where
+      passed : rebuildQuestions n (rowsOfWords n list) (rowsOfWords n out) ≡ ask (fitAll (n + n) (rowsOfWords n list)) 8 0
+      passed = counted n (rowsOfWords n list) (rowsOfWords n out) size (rows-count n out ∙ lent)
+
+      pub rebuild-8 : fitAll (n + n) (rowsOfWords n list) ≡ false → Meets Promised (rebuildReply n list out) out (figuresOf VectorTooWide)
+      rebuild-8 f = rebuild-refused 7 (figuresOf VectorTooWide) (passed ∙ ap (λ (b : Bool). ask b 8 0) f) refl
+
+      -- an answer lays the product into the words
+      pub rebuild-listed : (left : List ℕ) → fitAll (n + n) (rowsOfWords n list) ≡ true → left ≡ laid n (product n (rowsOfWords n list)) out
+          → Meets Promised (rebuildReply n list out) left (figuresOf (Rows (n + n)))
+      unfolding rebuildReply
+      rebuild-listed left f l =
+          meets-answer Promised asked out answer rebuild-rebuilds (figuresOf (Rows (n + n))) (passed ∙ ap (λ (b : Bool). ask b 8 0) f) left
+          (ap (λ (k : ℕ). figuresOf (Rows k)) (sym (product-length n (rowsOfWords n list)))) l

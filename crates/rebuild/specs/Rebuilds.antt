@@ -12,4 +12,4 @@ rebuildQuestions n vs rows = sizeQuestion n (countQuestion n rows (ask (fitAll (
 
 unfoldable pub rebuildReply : ℕ → List ℕ → List ℕ → Reply
 rebuildReply n list out =
-    let vs = rowsOfWords list in unlessRefused (rebuildQuestions n vs (rowsOfWords out)) out (listed (product n vs) 0 out)
+    let vs = rowsOfWords n list in unlessRefused (rebuildQuestions n vs (rowsOfWords n out)) out (listed n (product n vs) 0 out)

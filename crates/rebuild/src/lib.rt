@@ -1,11 +1,12 @@
 // The rebuild: the product of a lent list, laid into lent rows.
 // Not in the source.
-use symplectic::Told;
+use symplectic::Figures;
+use symplectic::MAX_QUBITS;
 ghost use mathlib.Core.Path.{_≡_};
 ghost use Rattle.blocks.specs.Words.{rowsOfWords};
-ghost use Rattle.symplectic.specs.Replies.{toldOf, Rebuilds};
+ghost use Rattle.symplectic.specs.Replies.{Rebuilds};
 ghost use Rattle.rebuild.specs.Rebuilds.{rebuildReply};
-ghost use Rattle.rebuild.specs.Answers.{told};
+ghost use Rattle.rebuild.specs.Answers.{figuresOf};
 
 // What a rebuild answers: how many rows it listed, or the first question that is answered no.
 pub enum Rebuilt {
@@ -16,24 +17,40 @@ pub enum Rebuilt {
 }
 
 // The number and the count that an answer stands for.
-pub fn tell(r: Rebuilt) -> Told
-    ensures { λ t. ⌜ t ≡ told r ⌝ }
+pub fn figures_of(r: Rebuilt) -> Figures
+    ensures { λ t. ⌜ t ≡ figuresOf r ⌝ }
 {
     match r {
-        Rebuilt::Rows { count } => symplectic::telling(0, count, 0),
-        Rebuilt::TooManyQubits => symplectic::telling(1, 0, 0),
-        Rebuilt::WrongRowCount => symplectic::telling(2, 0, 0),
-        Rebuilt::VectorTooWide => symplectic::telling(8, 0, 0),
+        Rebuilt::Rows { count } => Figures {
+            number: 0,
+            count: count,
+            looks: 0,
+        },
+        Rebuilt::TooManyQubits => Figures {
+            number: 1,
+            count: 0,
+            looks: 0,
+        },
+        Rebuilt::WrongRowCount => Figures {
+            number: 2,
+            count: 0,
+            looks: 0,
+        },
+        Rebuilt::VectorTooWide => Figures {
+            number: 8,
+            count: 0,
+            looks: 0,
+        },
     }
 }
 
 // The product of the turns of a list, in exactly 2n lent rows.
 pub fn rebuild(n: u64, list: &[u64], out: &mut [u64]) -> Rebuilt
-    ensures answered { λ r. ⌜ told r ≡ toldOf (rebuildReply n (now (list .entry)) (now (out .entry))) ⌝ }
+    ensures answered { λ r. ⌜ figuresOf r ≡ rebuildReply n (now (list .entry)) (now (out .entry)) .figures ⌝ }
     ensures left { λ r. ⌜ now (out .exit) ≡ rebuildReply n (now (list .entry)) (now (out .entry)) .words ⌝ }
-    ensures replays { λ r. ⌜ Rebuilds n (rowsOfWords (now (list .entry))) (now (out .exit)) (told r) ⌝ }
+    ensures replays { λ r. ⌜ Rebuilds n (rowsOfWords n (now (list .entry))) (now (out .exit)) (figuresOf r) ⌝ }
 {
-    if 32 < n {
+    if MAX_QUBITS < n {
         return Rebuilt::TooManyQubits;
     }
     let count = n + n;
@@ -41,10 +58,14 @@ pub fn rebuild(n: u64, list: &[u64], out: &mut [u64]) -> Rebuilt
     if out.len() != m {
         return Rebuilt::WrongRowCount;
     }
-    if !symplectic::fit_all(m, list) {
-        return Rebuilt::VectorTooWide;
+    let mut a = symplectic::identity(n);
+    for i in 0..list.len() {
+        let v = binar::of_word(list[i]);
+        if !binar::fits(v, m) {
+            return Rebuilt::VectorTooWide;
+        }
+        a = symplectic::followed(a, v);
     }
-    let a = symplectic::product(n, list);
     symplectic::store(a, out);
     Rebuilt::Rows { count: count }
 }

@@ -9,25 +9,25 @@ use lib.ListN.{length, length-map, length-append}
 use Rattle.binar.specs.Bits.{select}
 use Rattle.blocks.specs.Matrices.{All}
 use Rattle.blocks.proofs.All.{All·map, All·of-map, All·to-map, All·append, All·left, All·right}
-use Rattle.linear.specs.Space.{Space, scale}
+use Rattle.linear.specs.VectorSpace.{VectorSpace, scale}
 use Rattle.linear.specs.Span.{InSpan}
 use Rattle.linear.proofs.Sums.{cancel-right}
 use Rattle.linear.proofs.Exchange.{span-add, span-scale, span-members, span-trans}
-use Rattle.reduction.specs.Columns.{Pulled, nothing, pulled, behind, putIf, put, pullIf, pull, Halves, clear, columnBy, column, columns}
+use Rattle.reduction.specs.Columns.{Pulled, unpulled, pulled, behind, putIf, put, pullIf, pull, Halves, clear, columnBy, column, columns}
 
 abbrev pub rows : {A : Type 0} → Halves A → List A
 rows h = h .up ++ h .down
 
 -- ---- what is pulled
 
--- nothing, and no member has the column; or x, which has it, and the rest: what holds of each member holds of x and of each of the rest, and back
+-- no row, and no member has the column; or x, which has it, and the rest: what holds of each member holds of x and of each of the rest, and back
 module _ {A : Type 0} (has : A → Bool) (P : A → Type 0) where
   abbrev pub Pull : List A → Pulled A → Type 0
-  Pull ts nothing = All (λ t. has t ≡ false) ts
+  Pull ts unpulled = All (λ t. has t ≡ false) ts
   Pull ts (pulled x rest) = (has x ≡ true) × (All P ts → P x × All P rest) × (P x → All P rest → All P ts)
 
   behind-right : (t u : A) (us : List A) (out : Pulled A) → has u ≡ false → Pull (t ∷ us) out → Pull (t ∷ u ∷ us) (behind u out)
-  behind-right t u us nothing f h = (h .0, (f, h .1))
+  behind-right t u us unpulled f h = (h .0, (f, h .1))
   behind-right t u us (pulled x rest) f h = (
     h .0,
     λ a. let k = h .1 (a .0, a .1 .1) in (k .0, (a .1 .0, k .1)),
@@ -52,7 +52,7 @@ module _ {A : Type 0} (has : A → Bool) (P : A → Type 0) where
 
 -- how many rows there are then
 abbrev Sized : {A : Type 0} → ℕ → Pulled A → Type 0
-Sized n nothing = Unit {0}
+Sized n unpulled = Unit {0}
 Sized n (pulled x rest) = n ≡ suc (length rest)
 
 module _ {A : Type 0} (has : A → Bool) where
@@ -62,7 +62,7 @@ module _ {A : Type 0} (has : A → Bool) where
     where
       go : (b : Bool) (out : Pulled A) → Sized (suc (length us)) out → Sized (suc (suc (length us))) (putIf b t u us out)
       go true out s = refl
-      go false nothing s = tt
+      go false unpulled s = tt
       go false (pulled x rest) s = ap suc s
 
   pull-size : (ts : List A) → Sized (length ts) (pull has ts)
@@ -75,14 +75,14 @@ module _ {A : Type 0} (has : A → Bool) where
 
 -- ---- the rows over a space
 
-module _ (S : Space) where
-  open Space S using (Car, add as _⊕_, o)
+module _ (S : VectorSpace) where
+  open VectorSpace S using (Car, add as _⊕_, o)
 
   infixl 60 _⊕_
   -- each row lies in the span of the rows after a column has been cleared
   kept : (has : Car → Bool) (h : Halves Car) (out : Pulled Car) → ((P : Car → Type 0) → Pull has P (h .down) out)
       → All (InSpan S (rows (columnBy o _⊕_ has h out))) (rows h)
-  kept has h nothing r = span-members S (rows h)
+  kept has h unpulled r = span-members S (rows h)
   kept has h (pulled x rest) r =
       All·append In (h .up) (h .down) (All·map un (h .up) (All·of-map cl In (h .up) ups))
       (r In .2 in-x (All·map un rest (All·of-map cl In rest downs)))
@@ -120,7 +120,7 @@ module _ (S : Space) where
 
   closed : (Q : Car → Type 0) → Closed Q → (has : Car → Bool) (h : Halves Car) (out : Pulled Car) → Pull has Q (h .down) out
       → All Q (rows h) → All Q (rows (columnBy o _⊕_ has h out))
-  closed Q q has h nothing r a = a
+  closed Q q has h unpulled r a = a
   closed Q q has h (pulled x rest) r a =
       let k = r .1 (All·right Q (h .up) (h .down) a) in
       let cl : (y : Car) → Q y → Q (clear o _⊕_ has x y) = λ y e. q x y (has y) (k .0) e in
@@ -154,7 +154,7 @@ module _ (S : Space) where
 
 module _ {A : Type 0} (o : A) (add : A → A → A) where
   size-column : (has : A → Bool) (h : Halves A) (out : Pulled A) → Sized (length (h .down)) out → length (rows (columnBy o add has h out)) ≡ length (rows h)
-  size-column has h nothing s = refl
+  size-column has h unpulled s = refl
   size-column has h (pulled x rest) s =
       let cl = clear o add has x in
       let a = length-append (map cl (h .up) ++ (x ∷ [])) (map cl rest) in
@@ -176,7 +176,7 @@ abbrev pub mapHalves : {A B : Type 0} → (A → B) → Halves A → Halves B
 mapHalves f h = record { up = map f (h .up); down = map f (h .down) }
 
 abbrev mapPulled : {A B : Type 0} → (A → B) → Pulled A → Pulled B
-mapPulled f nothing = nothing
+mapPulled f unpulled = unpulled
 mapPulled f (pulled x rest) = pulled (f x) (map f rest)
 
 module _ {A B : Type 0} (f : A → B) where
@@ -186,7 +186,7 @@ module _ {A B : Type 0} (f : A → B) where
     where
       go : (b : Bool) (out : Pulled A) → putIf b (f t) (f u) (map f us) (mapPulled f out) ≡ mapPulled f (putIf b t u us out)
       go true out = refl
-      go false nothing = refl
+      go false unpulled = refl
       go false (pulled x rest) = refl
 
   pull-map : (has : B → Bool) (ts : List A) → pull has (map f ts) ≡ mapPulled f (pull (λ a. has (f a)) ts)
@@ -208,7 +208,7 @@ module _ {A B : Type 0} (f : A → B) where
 
     column-map : (has : B → Bool) (h : Halves A) (out : Pulled A)
         → columnBy o′ add′ has (mapHalves f h) (mapPulled f out) ≡ mapHalves f (columnBy o add (λ a. has (f a)) h out)
-    column-map has h nothing = refl
+    column-map has h unpulled = refl
     column-map has h (pulled x rest) =
         ap₂ (λ u d. record { up = u; down = d })
         (ap (λ l. l ++ (f x ∷ [])) (clear-map has x (h .up)) ∙ sym (map-append f (map (clear o add (λ a. has (f a)) x) (h .up)) (x ∷ []))) (clear-map has x rest)

@@ -19,14 +19,15 @@ use Rattle.linear.proofs.Exchange.{span-trans}
 use Rattle.linear.proofs.Instances.{𝕎}
 use Rattle.linear.proofs.Maps.{map-o}
 use Rattle.linear.proofs.Rows.{times-in, map-times, zero-by-units}
-use Rattle.symplectic.specs.Turns.{pairing, swapHalves}
+use Rattle.symplectic.specs.Turns.{pairing}
+use Rattle.symplectic.specs.inner.Vectors.{swapHalves}
 use Rattle.symplectic.proofs.Lists.{map-eq, eq-map}
 use Rattle.symplectic.proofs.Pairings.{swap-sum, swap-swap, swap-over, swap-low, swap-high, pairing-swap}
 use Rattle.symplectic.proofs.Layers.{added, added-sum, added-lt, added-over, identityPlus-is}
-use Rattle.reduction.specs.Columns.{reduced, rank, pivots}
+use Rattle.reduction.specs.Columns.{reduced, rank}
 use Rattle.reduction.specs.Residue.{residue, reduction, basis, transform, core, form}
 use Rattle.reduction.proofs.Echelon.{Rref}
-use Rattle.reduction.proofs.Reduced.{reduced-rref, reduced-indep, reduced-lt, reduced-out, rank-width}
+use Rattle.reduction.proofs.Reduced.{pivots, reduced-rref, reduced-indep, reduced-lt, reduced-out, rank-width}
 use Rattle.reduction.proofs.Transform.{basis-row-is, basis-transform-lt, basis-reduced}
 use Rattle.reduction.proofs.Forms.{form-transposed, transposed-length}
 

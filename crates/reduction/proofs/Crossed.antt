@@ -1,19 +1,26 @@
--- A block whose rows p and j are written over each other, and one column less of a reduction.
+-- A block with a row written, and one whose rows p and j are written over each other; one column less of a reduction.
 -- Assumes nothing.
 use mathlib.Core.Path.{_≡_, sym, ap, _∙_, subst}
 use mathlib.Core.List.{List, zip}
 use Prim.Native.Nat.{ℕ, _+_, _-_, _<_}
 use lib.ListN.{length, getD, set}
+use Rattle.binar.specs.declared.Row.{Row}
 use Rattle.binar.specs.Bits.{bit}
-use Rattle.binar.specs.Rows.{val, blank}
+use Rattle.binar.specs.Rows.{val}
+use Rattle.binar.specs.inner.Blank.{blank}
 use Rattle.blocks.specs.declared.Block.{Block}
 use Rattle.blocks.specs.Blocks.{rowsOf}
-use Rattle.blocks.specs.Matrices.{exchanged}
-use Rattle.blocks.proofs.Values.{rows-get, rows-exchange, exchanged-length, exchanged-first}
+use Rattle.blocks.specs.inner.Lists.{exchanged}
+use Rattle.blocks.proofs.Values.{rows-are, rows-get, rows-set, rows-exchange, exchanged-length, exchanged-first}
 use Rattle.symplectic.specs.Picks.{addBoth}
 use Rattle.reduction.specs.Columns.{Halves, column, columns}
-use Rattle.reduction.specs.Sweeps.{halves}
+use Rattle.reduction.specs.inner.Sweeps.{halves}
 use Rattle.reduction.proofs.Flat.{columns-next}
+
+-- a row written
+pub written-is : (b : Block) (i : ℕ) (v : Row) → rowsOf (record { rows = set (b .rows) i v; count = b .count }) ≡ set (rowsOf b) i (val v)
+written-is b i v =
+    rows-are (record { rows = set (b .rows) i v; count = b .count }) ∙ rows-set (b .rows) (b .count) i v ∙ ap (λ (l : List ℕ). set l i (val v)) (sym (rows-are b))
 
 -- a block with both rows written
 abbrev pub crossed : Block → ℕ → ℕ → Block
@@ -21,8 +28,7 @@ crossed b p j = record { rows = set (set (b .rows) p (getD (b .rows) j blank)) j
 
 module _ (b : Block) (p j : ℕ) (h : p < length (rowsOf b)) (g : j < length (rowsOf b)) where
   pub crossed-is : rowsOf (crossed b p j) ≡ exchanged p j (rowsOf b)
-  unfolding rowsOf
-  crossed-is = rows-exchange b p j h g
+  crossed-is = rows-are (crossed b p j) ∙ rows-exchange b p j h g
 
   pub crossed-length : length (rowsOf (crossed b p j)) ≡ length (rowsOf b)
   crossed-length = ap length crossed-is ∙ exchanged-length p j (rowsOf b)

@@ -12,12 +12,12 @@ use lib.ListN.{length, getD}
 use Rattle.binar.specs.Bits.{_⊻_}
 use Rattle.blocks.specs.Matrices.{All}
 use Rattle.blocks.proofs.All.{All·map, All·map₂, All·any, All·to-map, All·append, All·at}
-use Rattle.linear.specs.Space.{Space, scale}
+use Rattle.linear.specs.VectorSpace.{VectorSpace, scale}
 use Rattle.linear.specs.Maps.{Additive}
 use Rattle.linear.proofs.Sums.{add-zero, scale-o}
 use Rattle.linear.proofs.Instances.{𝔹}
 use Rattle.linear.proofs.Maps.{map-at}
-use Rattle.reduction.specs.Columns.{Pulled, nothing, pulled, pull, Halves, clear, columnBy, column, columns}
+use Rattle.reduction.specs.Columns.{Pulled, unpulled, pulled, pull, Halves, clear, columnBy, column, columns}
 use Rattle.reduction.proofs.Columns.{Pull, pull-right}
 
 -- the rows have none of the columns before c
@@ -35,8 +35,8 @@ Rref has (p ∷ ps) (u ∷ us) = (has p u ≡ true) × ((k : ℕ) → k < p → 
 abbrev pub Pivots : {A : Type 0} → (ℕ → A → Bool) → ℕ → List A → Type 0
 Pivots has c us = (ps : List ℕ) × Rref has ps us × All (λ p. p < c) ps
 
-module _ (S : Space) (has : ℕ → S .Car → Bool) (has-add : (c : ℕ) → Additive S 𝔹 (has c)) where
-  open Space S using (Car, add as _⊕_, o)
+module _ (S : VectorSpace) (has : ℕ → S .Car → Bool) (has-add : (c : ℕ) → Additive S 𝔹 (has c)) where
+  open VectorSpace S using (Car, add as _⊕_, o)
 
   infixl 60 _⊕_
   -- a column that x has not stays where x is added
@@ -54,7 +54,7 @@ module _ (S : Space) (has : ℕ → S .Car → Bool) (has-add : (c : ℕ) → Ad
 
   below-column : (c : ℕ) (h : Halves Car) (out : Pulled Car) → ((P : Car → Type 0) → Pull (has c) P (h .down) out) → Below has c (h .down)
       → Below has (suc c) (columnBy o _⊕_ (has c) h out .down)
-  below-column c h nothing r z k l =
+  below-column c h unpulled r z k l =
       ⊎-elim (λ e. subst (λ i. All (λ y. has i y ≡ false) (h .down)) (sym e) (r (λ _. Unit {0}))) (λ m. z k m) (eq-or-lt-of-le (le-of-suc-le-suc l))
   below-column c h (pulled x rest) r z k l = ⊎-elim here before (eq-or-lt-of-le (le-of-suc-le-suc l))
     where
@@ -96,7 +96,7 @@ module _ (S : Space) (has : ℕ → S .Car → Bool) (has-add : (c : ℕ) → Ad
 
   pivots-column : (c : ℕ) (h : Halves Car) (out : Pulled Car) → ((P : Car → Type 0) → Pull (has c) P (h .down) out) → Below has c (h .down)
       → Pivots has c (h .up) → Pivots has (suc c) (columnBy o _⊕_ (has c) h out .up)
-  pivots-column c h nothing r z (ps, e, a) = (ps, e, All·map (λ p l. omega arith) ps a)
+  pivots-column c h unpulled r z (ps, e, a) = (ps, e, All·map (λ p l. omega arith) ps a)
   pivots-column c h (pulled x rest) r z (ps, e, a) = (
     ps ++ (c ∷ []),
     rref-more ps (h .up) x c e a (r (λ _. Unit {0}) .0) (λ k l. r (λ y. has k y ≡ false) .1 (z k l) .0),

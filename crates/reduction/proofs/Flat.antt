@@ -10,8 +10,8 @@ use native.Mathlib.Numerals.{add-one}
 use lib.ListN.{length, take, drop, getD, set, length-set}
 use lib.Seq.{take-set-le}
 use Rattle.blocks.proofs.Firsts.{First, first-later, first-inner}
-use Rattle.reduction.specs.Columns.{nothing, pulled, putIf, put, pullIf, pull, Halves, clear, columnBy, column, columns}
-use Rattle.reduction.specs.Sweeps.{halves}
+use Rattle.reduction.specs.Columns.{unpulled, pulled, putIf, put, pullIf, pull, Halves, clear, columnBy, column, columns}
+use Rattle.reduction.specs.inner.Sweeps.{halves}
 
 -- the rows p and j exchanged
 abbrev pub swapped : {A : Type 0} → A → ℕ → ℕ → List A → List A
@@ -43,11 +43,11 @@ module _ {A : Type 0} (has : A → Bool) (d : A) where
   pull-at (suc p) zero (t ∷ ts) f = absurd (not-suc-le-zero (f .from))
   pull-at (suc p) (suc j) (t ∷ ts) f = pull-at p j ts (first-inner has d t ts p j f)
 
-  put-none : (t : A) (us : List A) → ((i : ℕ) → i < length us → has (getD us i d) ≡ false) → put has t us ≡ nothing
+  put-none : (t : A) (us : List A) → ((i : ℕ) → i < length us → has (getD us i d) ≡ false) → put has t us ≡ unpulled
   put-none t [] f = refl
   put-none t (u ∷ us) f = ap₂ (λ b l. putIf b t u us l) (f zero (zero-lt-suc (length us))) (put-none t us (λ i l. f (suc i) (suc-le-suc l)))
 
-  pub pull-none : (p : ℕ) (l : List A) → ((i : ℕ) → p ≤ i → i < length l → has (getD l i d) ≡ false) → pull has (drop p l) ≡ nothing
+  pub pull-none : (p : ℕ) (l : List A) → ((i : ℕ) → p ≤ i → i < length l → has (getD l i d) ≡ false) → pull has (drop p l) ≡ unpulled
   pull-none zero [] f = refl
   pull-none (suc p) [] f = refl
   pull-none zero (t ∷ ts) f =

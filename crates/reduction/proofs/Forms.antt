@@ -7,10 +7,14 @@ use lib.ListN.{length, length-map}
 use Rattle.binar.specs.Bits.{_⊻_, _⊕_, digit, dot}
 use Rattle.binar.proofs.Dots.{dot-sum, sum-dot}
 use Rattle.blocks.specs.Matrices.{times, dots}
-use Rattle.blocks.proofs.Products.{times-sum, dot-times}
+use Rattle.blocks.proofs.Products.{times-sum, dots-nil, dots-cons, dot-times}
 use Rattle.linear.specs.Maps.{Form}
 use Rattle.linear.proofs.Instances.{𝕎}
 use Rattle.reduction.specs.Residue.{timesTransposed, form}
+
+pub form-is : (E : List ℕ) (p q : ℕ) → form E p q ≡ dot (times p E) q
+unfolding form
+form-is E p q = refl
 
 pub form-left : (E : List ℕ) (q a b : ℕ) → form E (a ⊕ b) q ≡ form E a q ⊻ form E b q
 unfolding form
@@ -24,9 +28,9 @@ abbrev pub formOf : List ℕ → Form 𝕎
 formOf E = record { at = form E; left = form-left E; right = form-right E }
 
 dots-transposed : (B R : List ℕ) (q : ℕ) → dots (map (dots R) B) q ≡ dots B (times q R)
-unfolding dots
-dots-transposed [] R q = refl
-dots-transposed (v ∷ B) R q = ap₂ (λ s t. s * 2 + digit t) (dots-transposed B R q) (sym (dot-times R q v))
+dots-transposed [] R q = dots-nil q ∙ sym (dots-nil (times q R))
+dots-transposed (v ∷ B) R q =
+    dots-cons (dots R v) (map (dots R) B) q ∙ ap₂ (λ s t. s * 2 + digit t) (dots-transposed B R q) (sym (dot-times R q v)) ∙ sym (dots-cons v B (times q R))
 
 -- p times B times R transposed, with q
 pub form-transposed : (B R : List ℕ) (p q : ℕ) → form (timesTransposed B R) p q ≡ dot (times p B) (times q R)

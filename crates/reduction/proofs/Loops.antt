@@ -13,12 +13,14 @@ use lib.Seq.{take-all, take-length, take-suc, length-take-le}
 use Rattle.binar.specs.Bits.{select, digit, bit, dot, _⊕_}
 use Rattle.binar.proofs.Digits.{digit-lt}
 use Rattle.binar.proofs.Sums.{zero-sum, sum-zero, sum-parts}
-use Rattle.blocks.specs.Matrices.{dots, exchanged, units}
+use Rattle.blocks.specs.Matrices.{dots, units}
+use Rattle.blocks.specs.inner.Lists.{exchanged}
+use Rattle.blocks.proofs.Products.{dots-nil, dots-cons}
 use Rattle.blocks.proofs.Values.{exchanged-in}
 use Rattle.blocks.proofs.Firsts.{First}
 use Rattle.symplectic.specs.Picks.{addBoth}
 use Rattle.reduction.specs.Columns.{Halves, column, columns, reduced, rank, rowReduceWithTransform}
-use Rattle.reduction.specs.Sweeps.{halves, swept}
+use Rattle.reduction.specs.inner.Sweeps.{halves, swept}
 use Rattle.reduction.proofs.Columns.{columns-map}
 use Rattle.reduction.proofs.Flat.{swapped, swapped-length}
 use Rattle.reduction.proofs.Sweep.{swept-length}
@@ -105,13 +107,12 @@ doubled true k = omega (arith, pow-suc 2 k)
 doubled false k = refl
 
 pub dots-snoc : (M : List ℕ) (x v : ℕ) → dots (M ++ (x ∷ [])) v ≡ dots M v ⊕ select 0 (dot v x) (2 ^ length M)
-unfolding dots
-dots-snoc [] x v = first-digit (dot v x)
+dots-snoc [] x v = dots-cons x [] v ∙ ap (λ t. t * 2 + digit (dot v x)) (dots-nil v) ∙ first-digit (dot v x) ∙ ap (λ t. t ⊕ select 0 (dot v x) 1) (sym (dots-nil v))
 dots-snoc (y ∷ M) x v =
-    ap (λ t. t * 2 + digit (dot v y)) (dots-snoc M x v)
+    dots-cons y (M ++ (x ∷ [])) v ∙ ap (λ t. t * 2 + digit (dot v y)) (dots-snoc M x v)
     ∙ ap (λ t. (dots M v ⊕ select 0 (dot v x) (2 ^ length M)) * 2 + t) (sym (sum-zero (digit (dot v y))))
     ∙ sym (sum-parts 1 (dots M v) (select 0 (dot v x) (2 ^ length M)) (digit (dot v y)) 0 (digit-lt (dot v y)) (omega arith))
-    ∙ ap (λ t. (dots M v * 2 + digit (dot v y)) ⊕ t) (doubled (dot v x) (length M))
+    ∙ ap₂ _⊕_ (sym (dots-cons y M v)) (doubled (dot v x) (length M))
 
 pub dots-next : (M : List ℕ) (i v : ℕ) → i < length M → dots (take (i + 1) M) v ≡ dots (take i M) v ⊕ select 0 (dot v (getD M i 0)) (2 ^ i)
 dots-next M i v h =

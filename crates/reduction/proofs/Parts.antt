@@ -1,18 +1,22 @@
 -- The rows of I + F one by one, the halves of a list exchanged, and the basis and the core as front parts of a reduction.
 -- Assumes nothing.
-use mathlib.Core.Path.{_≡_, refl, sym, ap, ap₂, _∙_}
-use mathlib.Core.List.{List, [], _∷_, _++_, map, map-append, zipWith}
-use Prim.Native.Nat.{ℕ, zero, suc, _+_, _-_, _^_, _≤_, _<_}
+use mathlib.Core.Path.{_≡_, sym, ap, ap₂, _∙_}
+use mathlib.Core.List.{List, _++_, map, map-append}
+use Prim.Native.Nat.{ℕ, _+_, _-_, _^_, _≤_, _<_}
 use native.Mathlib.Omega.{arith}
-use native.Mathlib.Nat.{not-suc-le-zero, le-of-suc-le-suc}
 use lib.ListN.{length, take, drop, getD, length-map, length-append, length-drop, List·getD-append}
 use lib.Seq.{take-all, take-at, getD-append-add, getD-take, getD-drop}
 use Rattle.binar.specs.Bits.{_⊕_}
 use Rattle.binar.specs.Rows.{width}
-use Rattle.blocks.specs.Matrices.{units}
-use Rattle.blocks.proofs.Units.{units-length, units-at}
+use Rattle.binar.proofs.Sums.{sum-comm}
+use Rattle.blocks.specs.Matrices.{times, units}
+use Rattle.blocks.proofs.All.{All·at}
+use Rattle.blocks.proofs.Products.{times-unit}
+use Rattle.blocks.proofs.Units.{units-length, units-lt, units-at}
+use Rattle.blocks.proofs.Values.{map-get}
+use Rattle.symplectic.specs.Actions.{maxQubits}
 use Rattle.symplectic.specs.Turns.{identityPlus}
-use Rattle.symplectic.proofs.Layers.{added, identityPlus-is}
+use Rattle.symplectic.proofs.Layers.{added, added-is, identityPlus-is}
 use Rattle.reduction.specs.Columns.{Halves, rowReduceWithTransform}
 use Rattle.reduction.specs.Residue.{residue, reduction, basis, transform, timesTransposed, core}
 use Rattle.reduction.proofs.Core.{residue-length}
@@ -20,21 +24,17 @@ use Rattle.reduction.proofs.Transform.{transform-length}
 
 -- ---- the rows of I + F
 
-zipWith-at : (f : ℕ → ℕ → ℕ) (l m : List ℕ) (i : ℕ) → i < length l → i < length m → getD (zipWith f l m) i 0 ≡ f (getD l i 0) (getD m i 0)
-unfolding zipWith
-zipWith-at f [] m i h k = absurd (not-suc-le-zero h)
-zipWith-at f (x ∷ l) [] i h k = absurd (not-suc-le-zero k)
-zipWith-at f (x ∷ l) (y ∷ m) zero h k = refl
-zipWith-at f (x ∷ l) (y ∷ m) (suc i) h k = zipWith-at f l m i (le-of-suc-le-suc h) (le-of-suc-le-suc k)
-
 module _ (n : ℕ) (F : List ℕ) (size : length F ≡ n + n) where
   pub plus-length : length (identityPlus n F) ≡ n + n
   plus-length = ap length (identityPlus-is n F size) ∙ length-map (units (n + n)) (added n F) ∙ units-length (n + n)
 
   pub plus-at : (i : ℕ) → i < n + n → getD (identityPlus n F) i 0 ≡ getD F i 0 ⊕ 2 ^ i
-  unfolding identityPlus
   plus-at i h =
-      zipWith-at _⊕_ F (units (n + n)) i (omega arith) (omega (arith, units-length (n + n))) ∙ ap (λ u. getD F i 0 ⊕ u) (units-at i (n + n) h)
+      let U = units (n + n) in
+      let l : i < length U = omega (arith, units-length (n + n)) in
+      ap (λ M. getD M i 0) (identityPlus-is n F size) ∙ map-get (added n F) U i 0 0 l
+      ∙ added-is n F (getD U i 0) (All·at (λ u. u < 2 ^ (n + n)) U (units-lt (n + n)) i 0 l)
+      ∙ ap (λ u. u ⊕ times u F) (units-at i (n + n) h) ∙ ap (λ t. 2 ^ i ⊕ t) (times-unit i F) ∙ sum-comm (2 ^ i) (getD F i 0)
 
   -- row i of the residue is row j of I + F, where that is so of every list whose halves are exchanged
   pub residue-at : (k i j : ℕ) → k ≡ n → j < k + k → ((l : List ℕ) → length l ≡ k + k → getD (drop k l ++ take k l) i 0 ≡ getD l j 0)
@@ -58,15 +58,14 @@ upper-at n i l h g e =
 -- ---- the basis and the core
 
 -- rows that fit beside their transform
-pub fits-all : (l : List ℕ) → length l ≤ 64 → take width l ≡ l
-unfolding width
-fits-all l h = take-all 64 l h
+pub fits-all : (l : List ℕ) → length l ≤ width → take width l ≡ l
+fits-all l h = take-all width l h
 
 front : (f : ℕ × ℕ → ℕ) (h : Halves (ℕ × ℕ)) → take (length (h .up)) (map f (h .up ++ h .down)) ≡ map f (h .up)
 front f h =
     ap (take (length (h .up))) (map-append f (h .up) (h .down)) ∙ take-at (map f (h .up)) (map f (h .down)) (length (h .up)) (length-map (h .up) f)
 
-module _ (n q p : ℕ) (F M R T : List ℕ) (size : length F ≡ q + q) (small : q ≤ 32) (same : n ≡ q) (is : M ≡ residue q F)
+module _ (n q p : ℕ) (F M R T : List ℕ) (size : length F ≡ q + q) (small : q ≤ maxQubits) (same : n ≡ q) (is : M ≡ residue q F)
     (r : R ≡ map (λ a. a .0) (rowReduceWithTransform (n + n) (take width M) .up ++ rowReduceWithTransform (n + n) (take width M) .down))
     (t : T ≡ map (λ a. a .1) (rowReduceWithTransform (n + n) (take width M) .up ++ rowReduceWithTransform (n + n) (take width M) .down))
     (k : p ≡ length (rowReduceWithTransform (n + n) (take width M) .up)) where
@@ -82,7 +81,7 @@ module _ (n q p : ℕ) (F M R T : List ℕ) (size : length F ≡ q + q) (small :
   unfolding transform
   transform-end = ap₂ take k t ∙ front (λ a. a .1) (rowReduceWithTransform (n + n) (take width M)) ∙ ap (λ h. map (λ a. a .1) (h .up)) same-rows
 
-  short : length (transform q F) ≤ 64
+  short : length (transform q F) ≤ width
   unfolding transform reduction
   short =
       let h = reduction q F in

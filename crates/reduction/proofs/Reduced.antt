@@ -2,7 +2,7 @@
 -- Assumes nothing.
 use mathlib.Core.Path.{_≡_, refl, sym, ap, ap₂, _∙_, subst}
 use mathlib.Core.Bool.{Bool, true, false}
-use mathlib.Core.List.{List, [], _∷_}
+use mathlib.Core.List.{List, [], _∷_, map}
 use Prim.Native.Nat.{ℕ, zero, suc, _+_, _/_, _^_, _≤_, _<_, suc-le-suc}
 use native.Mathlib.Omega.{arith}
 use native.Mathlib.Nat.{le-refl, le-of-suc-le-suc, not-suc-le-zero, zero-lt-suc}
@@ -14,8 +14,9 @@ use Rattle.binar.proofs.Digits.{low-digit, bit-suc}
 use Rattle.binar.proofs.Sums.{bit-sum, bit-zero-is-odd, same-bits, bit-of-zero}
 use Rattle.blocks.specs.Matrices.{times, All, units}
 use Rattle.blocks.proofs.All.{All·map, All·map₂, All·append, All·left, All·right, All·at}
+use Rattle.blocks.proofs.Products.{times-cons}
 use Rattle.blocks.proofs.Units.{units-length}
-use Rattle.linear.specs.Space.{scale}
+use Rattle.linear.specs.VectorSpace.{scale}
 use Rattle.linear.specs.Span.{InSpan, Indep}
 use Rattle.linear.proofs.Sums.{add-zero, scale-o}
 use Rattle.linear.proofs.Exchange.{span-zero, span-add, span-scale, span-members, span-trans, steinitz}
@@ -23,7 +24,7 @@ use Rattle.linear.proofs.Instances.{𝔹, 𝕎, scale-true}
 use Rattle.linear.proofs.Maps.{map-at, span-kernel}
 use Rattle.linear.proofs.Rows.{times-in, units-span, span-lt}
 use Rattle.symplectic.proofs.Lists.{All·each}
-use Rattle.reduction.specs.Columns.{reduced, rank, pivots}
+use Rattle.reduction.specs.Columns.{reduced, rank}
 use Rattle.reduction.proofs.Columns.{rows, keeps-columns, closed-columns, length-columns}
 use Rattle.reduction.proofs.Echelon.{Below, Rref, Pivots, below-columns, columns-rref, rref-length, tail-zero}
 use Rattle.reduction.proofs.Unique.{rref-indep, unique}
@@ -38,6 +39,10 @@ trailing-at (suc m) x (suc p) l e z =
     ap (λ d. under d (trailingZeros m (x / 2))) (low-digit x ∙ ap digit (sym (bit-zero-is-odd x) ∙ z 0 (zero-lt-suc p)))
     ∙ ap suc (trailing-at m (x / 2) p (le-of-suc-le-suc l) (sym (bit-suc p x) ∙ e) (λ k h. sym (bit-suc k x) ∙ z (suc k) (suc-le-suc h)))
 
+-- the columns that carried the rank: where each basis row of m columns has its first one
+unfoldable pub pivots : ℕ → List ℕ → List ℕ
+pivots m B = map (trailingZeros m) B
+
 pivots-are : (m : ℕ) (ps us : List ℕ) → Rref bit ps us → All (λ p. p < m) ps → ps ≡ pivots m us
 unfolding pivots
 pivots-are m [] [] r a = refl
@@ -47,17 +52,16 @@ pivots-are m (p ∷ ps) (u ∷ us) r a = ap₂ _∷_ (sym (trailing-at m u p (a 
 
 -- the bits of a sum of the rows at the pivots say which rows it takes
 pub times-pivot : (ps us : List ℕ) → Rref bit ps us → (c i : ℕ) → i < length us → bit (getD ps i 0) (times c us) ≡ bit i c
-unfolding times
 times-pivot [] [] r c i l = absurd (not-suc-le-zero l)
 times-pivot [] (u ∷ us) r c i l = absurd r
 times-pivot (p ∷ ps) [] r c i l = absurd r
 times-pivot (p ∷ ps) (u ∷ us) r c zero l =
-    map-at 𝕎 𝔹 (bit p) (bit-sum p) (times (c / 2) us) (odd c) u
+    ap (bit p) (times-cons c u us) ∙ map-at 𝕎 𝔹 (bit p) (bit-sum p) (times (c / 2) us) (odd c) u
     ∙ ap₂ (λ s t. s ⊻ scale 𝔹 (odd c) t)
     (span-kernel 𝕎 𝔹 (bit p) (bit-sum p) us (tail-zero bit p p ps u us r (le-refl (suc p))) (times (c / 2) us) (times-in (c / 2) us)) (r .0)
     ∙ scale-true (odd c) ∙ sym (bit-zero-is-odd c)
 times-pivot (p ∷ ps) (u ∷ us) r c (suc i) l =
-    map-at 𝕎 𝔹 (bit (getD ps i 0)) (bit-sum (getD ps i 0)) (times (c / 2) us) (odd c) u
+    ap (bit (getD ps i 0)) (times-cons c u us) ∙ map-at 𝕎 𝔹 (bit (getD ps i 0)) (bit-sum (getD ps i 0)) (times (c / 2) us) (odd c) u
     ∙ ap₂ (λ s t. s ⊻ scale 𝔹 (odd c) t) (times-pivot ps us (r .3) (c / 2) i (le-of-suc-le-suc l)) none
     ∙ ap (λ t. bit i (c / 2) ⊻ t) (scale-o 𝔹 (odd c)) ∙ add-zero 𝔹 (bit i (c / 2)) ∙ sym (bit-suc i c)
   where

@@ -15,7 +15,7 @@ use lib.Seq.{set-getD, getD-set-same, getD-set-other, ext-getD}
 use Rattle.binar.specs.Bits.{select}
 use Rattle.blocks.proofs.Values.{map-get}
 use Rattle.reduction.specs.Columns.{clear}
-use Rattle.reduction.specs.Sweeps.{sweepIf, swept}
+use Rattle.reduction.specs.inner.Sweeps.{sweepIf, swept}
 use Rattle.reduction.proofs.Flat.{others}
 
 -- ---- a turn of the loop

@@ -9,7 +9,7 @@ use Rattle.binar.specs.Bits.{bit, _⊕_}
 use Rattle.binar.proofs.Sums.{sum-lt}
 use Rattle.blocks.specs.Matrices.{times, matmul, All, units}
 use Rattle.blocks.proofs.All.{All·map, All·to-map, All·of-map, All·left}
-use Rattle.blocks.proofs.Products.{times-sum}
+use Rattle.blocks.proofs.Products.{times-sum, matmul-is}
 use Rattle.blocks.proofs.Units.{units-length, units-lt, times-units}
 use Rattle.linear.specs.Span.{InSpan, Indep}
 use Rattle.linear.proofs.Sums.{add-zero}
@@ -55,10 +55,9 @@ module _ (m : ℕ) (M : List ℕ) where
 
   -- the reduced rows are the transform times the matrix
   pub reduced-product : map (λ a. a .0) (rows (rowReduceWithTransform m M)) ≡ matmul (map (λ a. a .1) (rows (rowReduceWithTransform m M))) M
-  unfolding matmul
   reduced-product =
       map-eq (λ a. a .0) (λ a. times (a .1) M) (rows (rowReduceWithTransform m M)) row-is
-      ∙ sym (map-map (λ r. times r M) (λ a. a .1) (rows (rowReduceWithTransform m M)))
+      ∙ sym (matmul-is (map (λ a. a .1) (rows (rowReduceWithTransform m M))) M ∙ map-map (λ r. times r M) (λ a. a .1) (rows (rowReduceWithTransform m M)))
 
   -- the rows alone are those of the plain reduction
   pub rows-reduced : mapHalves (λ a. a .0) (rowReduceWithTransform m M) ≡ reduced m M

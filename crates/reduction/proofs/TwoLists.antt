@@ -7,12 +7,13 @@ use Prim.Native.Nat.{ℕ, zero, suc, _≤_, _<_}
 use native.Mathlib.Nat.{suc-inj, suc-ne-zero}
 use lib.Dec.{eqb}
 use lib.ListN.{length, take, getD, set}
+use lib.Seq.{take-length}
 use Rattle.binar.specs.Bits.{bit, _⊕_}
 use Rattle.linear.proofs.Sums.{add-zero}
 use Rattle.linear.proofs.Instances.{𝕎, Prod}
 use Rattle.symplectic.specs.Picks.{addBoth}
 use Rattle.reduction.specs.Columns.{clear, column}
-use Rattle.reduction.specs.Sweeps.{halves, sweepIf, swept}
+use Rattle.reduction.specs.inner.Sweeps.{halves, sweepIf, swept}
 use Rattle.blocks.proofs.Firsts.{First}
 use Rattle.reduction.proofs.Flat.{swapped, swapped-length, swapped-pivot, others, column-at, column-none}
 use Rattle.reduction.proofs.Sweep.{swept-length, swept-all}
@@ -26,7 +27,7 @@ module _ {A B : Type 0} where
   zip-length (r ∷ R) [] e = absurd (suc-ne-zero (length R) e)
   zip-length (r ∷ R) (t ∷ T) e = ap suc (zip-length R T (suc-inj e))
 
-  zip-at : (R : List A) (T : List B) (d : A) (e : B) → length R ≡ length T → (i : ℕ) → getD (zip R T) i (d, e) ≡ (getD R i d, getD T i e)
+  pub zip-at : (R : List A) (T : List B) (d : A) (e : B) → length R ≡ length T → (i : ℕ) → getD (zip R T) i (d, e) ≡ (getD R i d, getD T i e)
   unfolding zip zipWith
   zip-at [] [] d e s i = refl
   zip-at [] (t ∷ T) d e s i = absurd (suc-ne-zero (length T) (sym s))
@@ -34,13 +35,20 @@ module _ {A B : Type 0} where
   zip-at (r ∷ R) (t ∷ T) d e s zero = refl
   zip-at (r ∷ R) (t ∷ T) d e s (suc i) = zip-at R T d e (suc-inj s) i
 
-  zip-set : (R : List A) (T : List B) (i : ℕ) (a : A) (b : B) → zip (set R i a) (set T i b) ≡ set (zip R T) i (a, b)
+  pub zip-set : (R : List A) (T : List B) (i : ℕ) (a : A) (b : B) → zip (set R i a) (set T i b) ≡ set (zip R T) i (a, b)
   unfolding zip zipWith
   zip-set [] T i a b = refl
   zip-set (r ∷ R) [] zero a b = refl
   zip-set (r ∷ R) [] (suc i) a b = refl
   zip-set (r ∷ R) (t ∷ T) zero a b = refl
   zip-set (r ∷ R) (t ∷ T) (suc i) a b = ap (λ l. (r, t) ∷ l) (zip-set R T i a b)
+
+  pub zip-take : (p : ℕ) (R : List A) (T : List B) → take p (zip R T) ≡ zip (take p R) (take p T)
+  unfolding zip zipWith
+  zip-take zero R T = refl
+  zip-take (suc p) [] T = refl
+  zip-take (suc p) (r ∷ R) [] = refl
+  zip-take (suc p) (r ∷ R) (t ∷ T) = ap (λ l. (r, t) ∷ l) (zip-take p R T)
 
   -- the first of the pairs above the pivot row, and the second
   pub above-left : (p : ℕ) (R : List A) (T : List B) → length R ≡ length T → map (λ a. a .0) (take p (zip R T)) ≡ take p R
@@ -57,6 +65,16 @@ module _ {A B : Type 0} where
   above-right (suc p) [] (t ∷ T) e = absurd (suc-ne-zero (length T) (sym e))
   above-right (suc p) (r ∷ R) [] e = absurd (suc-ne-zero (length R) e)
   above-right (suc p) (r ∷ R) (t ∷ T) e = ap (λ l. t ∷ l) (above-right p R T (suc-inj e))
+
+  -- the pairs tell the two lists
+  pub zip-same : (R R′ : List A) (T T′ : List B) → length R ≡ length T → length R′ ≡ length T′ → zip R T ≡ zip R′ T′ → (R ≡ R′) × (T ≡ T′)
+  zip-same R R′ T T′ e e′ is =
+      let same = sym (zip-length R T e) ∙ ap length is ∙ zip-length R′ T′ e′ in (
+        sym (take-length R) ∙ sym (above-left (length R) R T e) ∙ ap (λ l. map (λ a. a .0) (take (length R) l)) is ∙ above-left (length R) R′ T′ e′
+            ∙ ap (λ n. take n R′) same ∙ take-length R′,
+        sym (ap (λ n. take n T) e ∙ take-length T) ∙ sym (above-right (length R) R T e) ∙ ap (λ l. map (λ a. a .1) (take (length R) l)) is
+            ∙ above-right (length R) R′ T′ e′ ∙ ap (λ n. take n T′) (same ∙ e′) ∙ take-length T′,
+      )
 
 abbrev zeros : ℕ × ℕ
 zeros = (0, 0)

@@ -11,7 +11,7 @@ use native.Mathlib.Decide.{decLe}
 use Rattle.binar.specs.Bits.{_⊻_}
 use Rattle.blocks.specs.Matrices.{All}
 use Rattle.blocks.proofs.All.{All·map₂}
-use Rattle.linear.specs.Space.{Space}
+use Rattle.linear.specs.VectorSpace.{VectorSpace}
 use Rattle.linear.specs.Span.{InSpan, Indep}
 use Rattle.linear.specs.Maps.{Additive}
 use Rattle.linear.proofs.Sums.{add-zero, eq-of-sum}
@@ -20,8 +20,8 @@ use Rattle.linear.proofs.Instances.{𝔹}
 use Rattle.linear.proofs.Maps.{map-at, map-o, span-kernel}
 use Rattle.reduction.proofs.Echelon.{Rref, tail-zero}
 
-module _ (S : Space) (has : ℕ → S .Car → Bool) (has-add : (c : ℕ) → Additive S 𝔹 (has c)) where
-  open Space S using (Car, add as _⊕_, o)
+module _ (S : VectorSpace) (has : ℕ → S .Car → Bool) (has-add : (c : ℕ) → Additive S 𝔹 (has c)) where
+  open VectorSpace S using (Car, add as _⊕_, o)
 
   infixl 60 _⊕_
   rest-zero : (p : ℕ) (ps : List ℕ) (u : Car) (us : List Car) → Rref has (p ∷ ps) (u ∷ us) → All (λ v. has p v ≡ false) us

@@ -4,7 +4,6 @@
 use mathlib.Core.Bool.{Bool, true, false}
 use mathlib.Core.List.{List, [], _∷_, _++_, map, zip}
 use Prim.Native.Nat.{ℕ, zero, suc}
-use lib.Count.{trailingZeros}
 use lib.ListN.{length}
 use Rattle.binar.specs.Bits.{select, bit, _⊕_}
 use Rattle.blocks.specs.Matrices.{units}
@@ -12,11 +11,11 @@ use Rattle.symplectic.specs.Picks.{addBoth}
 
 -- the row that is exchanged up, and the rows that are then below it
 pub data Pulled (A : Type 0) : Type 0 where
-  nothing : Pulled A
+  unpulled : Pulled A
   pulled : A → List A → Pulled A
 
 abbrev pub behind : {A : Type 0} → A → Pulled A → Pulled A
-behind u nothing = nothing
+behind u unpulled = unpulled
 behind u (pulled x rest) = pulled x (u ∷ rest)
 
 -- row t takes the place of the first row that has the bit
@@ -25,7 +24,7 @@ putIf true t u us later = pulled u (t ∷ us)
 putIf false t u us later = behind u later
 
 abbrev pub put : {A : Type 0} → (A → Bool) → A → List A → Pulled A
-put has t [] = nothing
+put has t [] = unpulled
 put has t (u ∷ us) = putIf (has u) t u us (put has t us)
 
 -- the first row that has the bit, exchanged with the first row
@@ -34,7 +33,7 @@ pullIf true t ts later = pulled t ts
 pullIf false t ts later = later
 
 abbrev pub pull : {A : Type 0} → (A → Bool) → List A → Pulled A
-pull has [] = nothing
+pull has [] = unpulled
 pull has (t ∷ ts) = pullIf (has t) t ts (put has t ts)
 
 -- the rows above the pivot row, and those from it down
@@ -48,7 +47,7 @@ module _ {A : Type 0} (o : A) (add : A → A → A) where
   clear has x y = add y (select o (has y) x)
 
   abbrev pub columnBy : (A → Bool) → Halves A → Pulled A → Halves A
-  columnBy has h nothing = h
+  columnBy has h unpulled = h
   columnBy has h (pulled x rest) = record { up = map (clear has x) (h .up) ++ (x ∷ []); down = map (clear has x) rest }
 
   abbrev pub column : (A → Bool) → Halves A → Halves A
@@ -71,7 +70,3 @@ rank m M = length (reduced m M .up)
 unfoldable pub rowReduceWithTransform : ℕ → List ℕ → Halves (ℕ × ℕ)
 rowReduceWithTransform m M =
     columns (0, 0) addBoth (λ c a. bit c (a .0)) m 0 (record { up = []; down = zip M (units (length M)) })
-
--- the columns that carried the rank: where each basis row of m columns has its first one
-unfoldable pub pivots : ℕ → List ℕ → List ℕ
-pivots m B = map (trailingZeros m) B

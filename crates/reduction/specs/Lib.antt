@@ -1,3 +1,3 @@
 pub mod Columns
 pub mod Residue
-pub mod Sweeps
+pub mod inner

@@ -1,6 +1,7 @@
 // Reduction by columns: rows with their transform, and the rank; the residue of an action, its basis and core.
 // In the source: transvection_exact.rs, `residue_matrix`, `row_reduce_with_transform`, `residue_core`.
 use binar::Row;
+use binar::WIDTH;
 use blocks::Block;
 use symplectic::Action;
 ghost use mathlib.Core.Path.{_≡_};
@@ -12,17 +13,17 @@ ghost use Rattle.binar.specs.Bits.{bit as bitOf, _⊕_, select};
 ghost use Rattle.binar.specs.Rows.{val, width, unit as unitOf};
 ghost use Rattle.blocks.specs.Blocks.{rowsOf};
 ghost use Rattle.blocks.specs.Matrices.{dots as dotsOf};
-ghost use Rattle.symplectic.specs.Actions.{qubits, matrix};
+ghost use Rattle.symplectic.specs.Actions.{maxQubits, qubits, matrix};
 ghost use Rattle.symplectic.specs.Picks.{addBoth};
 ghost use Rattle.reduction.specs.Columns.{columns, rank as rankOf, rowReduceWithTransform};
-ghost use Rattle.reduction.specs.Sweeps.{halves, halvesOf};
+ghost use Rattle.reduction.specs.inner.Sweeps.{halves, halvesOf};
 ghost use Rattle.reduction.specs.Residue.{residue as residueOf, basis as basisOf, core as coreOf, timesTransposed};
 
 // Rows and transform rows in their final order: the first `rank` rows are the basis.
-pub struct Reduction {
-    pub rows: Block,
-    pub transform: Block,
-    pub rank: usize,
+struct Reduction {
+    rows: Block,
+    transform: Block,
+    rank: usize,
 }
 
 // The basis of an action's residue, and the core.
@@ -110,12 +111,12 @@ fn by_columns(m: usize, rows: Block, transform: Block) -> Reduction
     }
 }
 
-// A row has a column for each of 64 transform rows: rows past the first 64 are left out.
-pub fn row_reduce_with_transform(m: usize, matrix: Block) -> Reduction
+// The first rows, as many as a row of the transform has columns, with their transform.
+fn row_reduce_with_transform(m: usize, matrix: Block) -> Reduction
     ensures { λ r. ⌜ (let h = rowReduceWithTransform m (take width (rowsOf matrix)) in
         (rowsOf (r .rows) ≡ map (λ a. a .0) (h .up ++ h .down)) × (rowsOf (r .transform) ≡ map (λ a. a .1) (h .up ++ h .down)) × (r .rank ≡ length (h .up))) ⌝ }
 {
-    let rows = first_rows(matrix, 64);
+    let rows = first_rows(matrix, WIDTH);
     let k = blocks::length_of(rows);
     by_columns(m, rows, blocks::identity(k))
 }
@@ -133,11 +134,11 @@ fn with_unit(w: Row, k: usize, on: bool) -> Row
     if on { binar::sum(w, binar::unit(k)) } else { w }
 }
 
-// The row whose column i is the dot of v and row i: v times the matrix transposed.
+// The row whose column i is the dot of v and row i, as far as it has columns: v times the matrix transposed.
 fn dots(v: Row, b: Block) -> Row
     ensures { λ r. ⌜ val r ≡ dotsOf (take width (rowsOf b)) (val v) ⌝ }
 {
-    let rows = first_rows(b, 64);
+    let rows = first_rows(b, WIDTH);
     let k = blocks::length_of(rows);
     let mut w = binar::zero();
     for i in 0..k {
@@ -146,7 +147,7 @@ fn dots(v: Row, b: Block) -> Row
     w
 }
 
-// A row has a column for each of the first 64 rows of r: those past them are left out.
+// Each row of b times r transposed: rows of r past the columns of a row are left out.
 fn times_transposed(b: Block, r: Block) -> Block
     ensures { λ e. ⌜ rowsOf e ≡ timesTransposed (rowsOf b) (take width (rowsOf r)) ⌝ }
 {
@@ -161,7 +162,7 @@ fn times_transposed(b: Block, r: Block) -> Block
 
 // Where row i stands once the upper and lower n rows are exchanged.
 fn other_half(i: usize, n: usize) -> usize
-    requires { ⌜ (i < n + n) × (n ≤ 32) ⌝ }
+    requires { ⌜ (i < n + n) × (n ≤ maxQubits) ⌝ }
     ensures { λ r. ⌜ (r < n + n) × ((l : List ℕ) → length l ≡ n + n → getD (drop n l ++ take n l) i 0 ≡ getD l r 0) ⌝ }
 {
     if i < n { i + n } else { i - n }
@@ -171,7 +172,7 @@ fn other_half(i: usize, n: usize) -> usize
 fn residue(a: Action) -> Block
     ensures { λ r. ⌜ rowsOf r ≡ residueOf (qubits a) (matrix a) ⌝ }
 {
-    let n = symplectic::width(a);
+    let n = symplectic::qubits_of(a);
     let m = n + n;
     let mut r = blocks::empty();
     for i in 0..m {
@@ -186,7 +187,7 @@ fn residue(a: Action) -> Block
 pub fn residue_core(a: Action) -> ResidueCore
     ensures { λ r. ⌜ (rowsOf (r .basis) ≡ basisOf (qubits a) (matrix a)) × (rowsOf (r .core) ≡ coreOf (qubits a) (matrix a)) ⌝ }
 {
-    let n = symplectic::width(a);
+    let n = symplectic::qubits_of(a);
     let r = row_reduce_with_transform(n + n, residue(a));
     let basis = first_rows(r.rows, r.rank);
     let transform = first_rows(r.transform, r.rank);

@@ -1,4 +1,212 @@
-// Replays the reference answers of its standard input.
+// replay: reads reference answers, records, from standard input, makes the call of each, and counts the whole answers that agree.
+// A record is a header of 32 bytes, little-endian, and two runs of words: what is lent, and what is listed. See tools/mkreplay.
+// Not in the source.
+mod tally;
+
+use symplectic::Figures;
+ghost use mathlib.Core.Path.{_≡_};
+ghost use mathlib.Core.Bool.{true};
+ghost use Prim.Native.Nat.{_≤_, _<_};
+ghost use lib.ListN.{length};
+ghost use Rattle.replay.specs.inner.Records.{Alike, HasRoom};
+
+// What each output word holds before a call.
+const FILL: u64 = 0xa5a5a5a5a5a5a5a5;
+
+// The kinds of calls.
+const MIN: u64 = 0;
+
+const GREEDY: u64 = 1;
+
+const REBUILD: u64 = 2;
+
+// A record's header: the call, the size of a word in bytes, how many words are lent and listed, and the answer.
+struct Case {
+    kind: u64,
+    size: usize,
+    lent: usize,
+    room: usize,
+    number: u64,
+    count: usize,
+    n: u64,
+    budget: u64,
+    looks: u64,
+}
+
+// ---- the calls
+
+// The low bytes of some words.
+fn bytes_of(words: &[u64]) -> [u8; 320]
+    requires { ⌜ length (now words) ≤ 320 ⌝ }
+    ensures { λ r. ⌜ 320 ≡ length r ⌝ }
+{
+    let mut bytes = [0u8; 320];
+    for i in 0..words.len() {
+        bytes[i] = (words[i] % 256) as u8;
+    }
+    bytes
+}
+
+// The gate call, on bytes that are lent as words.
+fn gate_words(n: u64, words: &[u64], out: &mut [u64]) -> Figures
+    requires { ⌜ length (now words) ≤ 320 ⌝ }
+{
+    let bytes = bytes_of(words);
+    let a = gates::gate_action(n, &bytes[..words.len()], out);
+    gates::figures_of(a)
+}
+
+fn known(kind: u64) -> bool
+    ensures { λ r. ⌜ (r ≡ true → kind < 4) ⌝ }
+{
+    kind < 4
+}
+
+// The call of a known kind.
+fn call(c: Case, lent: &[u64], out: &mut [u64]) -> Figures
+    requires { ⌜ length (now lent) ≤ 320 ⌝ }
+{
+    if c.kind == MIN {
+        let a = transvection_exact::clifford_to_transvections_minimal(c.n, lent, c.budget, out);
+        return transvection_exact::figures_of(a);
+    }
+    if c.kind == GREEDY {
+        let a = transvection::clifford_to_transvections(c.n, lent, out);
+        return transvection::figures_of(a);
+    }
+    if c.kind == REBUILD {
+        let a = rebuild::rebuild(c.n, lent, out);
+        return rebuild::figures_of(a);
+    }
+    gate_words(c.n, lent, out)
+}
+
+// ---- the records
+
+// Byte from + i, or 0 past the end.
+fn byte_at(bytes: &[u8], from: usize, i: usize) -> u64 {
+    if bytes.len() <= from {
+        return 0;
+    }
+    if bytes.len() - from <= i {
+        return 0;
+    }
+    bytes[from + i] as u64
+}
+
+// The little-endian number of some bytes; bytes past the end are 0.
+fn number_at(bytes: &[u8], from: usize, size: usize) -> u64 {
+    let mut v: u64 = 0;
+    let mut i = size;
+    while 0 < i {
+        i -= 1;
+        v = (v << 8) | byte_at(bytes, from, i);
+    }
+    v
+}
+
+// How many bytes some words take.
+fn span(words: usize, size: usize) -> usize
+    requires { ⌜ (words ≤ 480) × (size ≤ 8) ⌝ }
+    ensures { λ r. ⌜ r ≤ 3840 ⌝ }
+{
+    words * size
+}
+
+fn blank() -> [u64; 1024]
+    ensures { λ r. ⌜ 1024 ≡ length r ⌝ }
+{
+    [FILL; 1024]
+}
+
+// The words of a run that begins at a byte, and FILL behind them.
+fn words_at(bytes: &[u8], from: usize, size: usize, count: usize) -> [u64; 1024]
+    requires { ⌜ (from ≤ 3840) × (size ≤ 8) × (count ≤ 320) ⌝ }
+    ensures { λ r. ⌜ 1024 ≡ length r ⌝ }
+{
+    let mut words = blank();
+    let mut at = from;
+    for i in 0..count {
+        words[i] = number_at(bytes, at, size);
+        at += size;
+    }
+    words
+}
+
+fn case_of(head: &[u8]) -> Case {
+    Case {
+        kind: number_at(head, 0, 1),
+        size: number_at(head, 1, 1) as usize,
+        lent: number_at(head, 2, 2) as usize,
+        room: number_at(head, 4, 2) as usize,
+        number: number_at(head, 6, 1),
+        count: number_at(head, 7, 1) as usize,
+        n: number_at(head, 8, 8),
+        budget: number_at(head, 16, 8),
+        looks: number_at(head, 24, 8),
+    }
+}
+
+// Whether a record's words have room in the buffers.
+fn fits(c: Case) -> bool
+    ensures { λ r. ⌜ (r ≡ true → HasRoom c) ⌝ }
+{
+    if 8 < c.size {
+        return false;
+    }
+    if 320 < c.lent {
+        return false;
+    }
+    if 1024 < c.room {
+        return false;
+    }
+    c.count <= 160
+}
+
+// Whether the words are the same.
+fn same(a: &[u64], b: &[u64]) -> bool
+    ensures { λ r. ⌜ (r ≡ true → now (a .entry) ≡ now (b .entry)) × (now (a .entry) ≡ now (b .entry) → r ≡ true) ⌝ }
+{
+    if a.len() != b.len() {
+        return false;
+    }
+    let mut i = 0;
+    while i < a.len() {
+        if a[i] != b[i] {
+            return false;
+        }
+        i += 1;
+    }
+    true
+}
+
+// Whether the answer is that of the record.
+fn figures_alike(c: Case, a: Figures) -> bool
+    ensures { λ r. ⌜ (r ≡ true → Alike c a) × (Alike c a → r ≡ true) ⌝ }
+{
+    if a.number != c.number {
+        return false;
+    }
+    if a.count != c.count as u64 {
+        return false;
+    }
+    a.looks == c.looks
+}
+
+// Makes the call of a record and compares all that it answers and leaves, words past the count among them.
+fn agrees(c: Case, bytes: &[u8]) -> bool
+    requires { ⌜ HasRoom c ⌝ }
+{
+    let lent = words_at(bytes, 0, c.size, c.lent);
+    let want = words_at(bytes, span(c.lent, c.size), c.size, c.count);
+    let mut out = blank();
+    let a = call(c, &lent[..c.lent], &mut out[..c.room]);
+    if !figures_alike(c, a) {
+        return false;
+    }
+    same(&want, &out)
+}
+
 fn main() {
-    replays::run();
+    tally::run();
 }

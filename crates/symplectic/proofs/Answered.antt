@@ -2,30 +2,33 @@
 -- Assumes nothing.
 use mathlib.Core.Path.{_≡_, refl, sym, ap, _∙_, subst}
 use mathlib.Core.List.{List}
-use Prim.Native.Nat.{ℕ, zero, suc, _+_, _≤_}
+use Prim.Native.Nat.{ℕ, zero, suc, _+_, _^_, _≤_, _<_}
 use native.Mathlib.Omega.{arith}
 use lib.ListN.{length}
 use Rattle.blocks.specs.Words.{rowsOfWords}
-use Rattle.blocks.proofs.Values.{laid-front, laid-whole}
-use Rattle.symplectic.specs.declared.Told.{Told}
+use Rattle.binar.specs.Rows.{width}
+use Rattle.blocks.specs.Matrices.{All}
+use Rattle.blocks.proofs.Values.{laid-front, laid-whole, rows-count}
+use Rattle.symplectic.specs.Actions.{maxQubits}
+use Rattle.symplectic.specs.declared.Figures.{Figures}
 use Rattle.symplectic.specs.Turns.{product}
-use Rattle.symplectic.specs.Replies.{Reply, toldOf, refused, listed, unlessRefused, Replays, Rebuilds}
-use Rattle.symplectic.proofs.Products.{product-length}
+use Rattle.symplectic.specs.Replies.{Reply, refused, listed, unlessRefused, Replays, Rebuilds}
+use Rattle.symplectic.proofs.Products.{product-length, product-lt}
 use Rattle.symplectic.proofs.Questions.{reply-passed, reply-refused}
 
 -- ---- a reply and what holds of it
 
 -- what a contract says of an answer t that leaves the words `left`
-abbrev pub Meets : (List ℕ → Told → Type 0) → Reply → List ℕ → Told → Type 0
-Meets P reply left t = (t ≡ toldOf reply) × ((left ≡ reply .words) × P left t)
+abbrev pub Meets : (List ℕ → Figures → Type 0) → Reply → List ℕ → Figures → Type 0
+Meets P reply left t = (t ≡ reply .figures) × ((left ≡ reply .words) × P left t)
 
 -- what holds of a reply
-abbrev pub Holds : (List ℕ → Told → Type 0) → Reply → Type 0
-Holds P reply = P (reply .words) (toldOf reply)
+abbrev pub Holds : (List ℕ → Figures → Type 0) → Reply → Type 0
+Holds P reply = P (reply .words) (reply .figures)
 
-module _ (P : List ℕ → Told → Type 0) where
-  pub meets : (reply : Reply) → Holds P reply → (left : List ℕ) (t : Told) → t ≡ toldOf reply → left ≡ reply .words → Meets P reply left t
-  meets reply h left t e l = (e, (l, subst (λ (x : Told). P left x) (sym e) (subst (λ (x : List ℕ). P x (toldOf reply)) (sym l) h)))
+module _ (P : List ℕ → Figures → Type 0) where
+  pub meets : (reply : Reply) → Holds P reply → (left : List ℕ) (t : Figures) → t ≡ reply .figures → left ≡ reply .words → Meets P reply left t
+  meets reply h left t e l = (e, (l, subst (λ (x : Figures). P left x) (sym e) (subst (λ (x : List ℕ). P x (reply .figures)) (sym l) h)))
 
   module _ (asked : ℕ) (out : List ℕ) (answer : Reply) where
     -- of a reply that is the answer where every question is passed, else the refusal
@@ -36,39 +39,41 @@ module _ (P : List ℕ → Told → Type 0) where
         go zero h = h refl
         go (suc k) h = r k
 
-    module _ (h : Holds P (unlessRefused asked out answer)) (t : Told) where
+    module _ (h : Holds P (unlessRefused asked out answer)) (t : Figures) where
       -- a refusal leaves the words as they are
-      pub meets-refused : (k : ℕ) → asked ≡ suc k → t ≡ toldOf (refused (suc k) 0 out) → Meets P (unlessRefused asked out answer) out t
-      unfolding refused
+      pub meets-refused : (k : ℕ) → asked ≡ suc k → t ≡ refused (suc k) 0 out .figures → Meets P (unlessRefused asked out answer) out t
       meets-refused k e s =
           let w = reply-refused asked k out answer e in
-          meets (unlessRefused asked out answer) h out t (s ∙ sym (ap toldOf w)) (sym (ap (λ (x : Reply). x .words) w))
+          meets (unlessRefused asked out answer) h out t (s ∙ sym (ap (λ (x : Reply). x .figures) w)) (sym (ap (λ (x : Reply). x .words) w))
 
-      pub meets-answer : asked ≡ 0 → (left : List ℕ) → t ≡ toldOf answer → left ≡ answer .words → Meets P (unlessRefused asked out answer) left t
+      pub meets-answer : asked ≡ 0 → (left : List ℕ) → t ≡ answer .figures → left ≡ answer .words → Meets P (unlessRefused asked out answer) left t
       meets-answer e left s l =
           let w = reply-passed asked out answer e in
-          meets (unlessRefused asked out answer) h left t (s ∙ sym (ap toldOf w)) (l ∙ sym (ap (λ (x : Reply). x .words) w))
+          meets (unlessRefused asked out answer) h left t (s ∙ sym (ap (λ (x : Reply). x .figures) w)) (l ∙ sym (ap (λ (x : Reply). x .words) w))
 
 -- ---- lists and rebuilds
 
+-- a row has columns enough
+pub rows-wide : {n : ℕ} → n ≤ maxQubits → n + n ≤ width
+rows-wide h = omega arith
+
 module _ (n : ℕ) (rows : List ℕ) where
   pub refused-replays : (k looks : ℕ) (out : List ℕ) → Holds (Replays n rows) (refused (suc k) looks out)
-  unfolding refused toldOf Replays
   refused-replays k looks out z = absurd (omega arith)
 
-  pub listed-replays : (vs : List ℕ) (looks : ℕ) (out : List ℕ) → product n vs ≡ rowsOfWords rows → length vs ≤ length out → Holds (Replays n rows) (listed vs looks out)
-  unfolding listed toldOf Replays
-  listed-replays vs looks out p h z = ap (product n) (laid-front vs out h) ∙ p
+  pub listed-replays : n ≤ maxQubits → (vs : List ℕ) → All (λ v. v < 2 ^ (n + n)) vs → (looks : ℕ) (out : List ℕ) → product n vs ≡ rowsOfWords n rows → length vs ≤ length out
+      → Holds (Replays n rows) (listed n vs looks out)
+  listed-replays size vs fits looks out p h z = ap (product n) (laid-front n (rows-wide size) vs out fits h) ∙ p
 
 module _ (n : ℕ) (turns : List ℕ) where
   refused-rebuilds : (out : List ℕ) (k : ℕ) → Holds (Rebuilds n turns) (refused (suc k) 0 out)
-  unfolding refused toldOf Rebuilds
   refused-rebuilds out k z = absurd (omega arith)
 
-  listed-rebuilds : (out : List ℕ) → length (rowsOfWords out) ≡ n + n → Holds (Rebuilds n turns) (listed (product n turns) 0 out)
-  unfolding listed toldOf Rebuilds rowsOfWords
-  listed-rebuilds out e z = laid-whole (product n turns) out (product-length n turns ∙ sym e)
+  listed-rebuilds : n ≤ maxQubits → All (λ v. v < 2 ^ (n + n)) turns → (out : List ℕ) → length (rowsOfWords n out) ≡ n + n → Holds (Rebuilds n turns) (listed n (product n turns) 0 out)
+  listed-rebuilds size fits out e z =
+      laid-whole n (rows-wide size) (product n turns) out (product-lt n turns fits) (product-length n turns ∙ sym e ∙ rows-count n out)
 
   -- the product of the turns in exactly 2n lent rows, where every question is passed
-  pub rebuilds : (asked : ℕ) (out : List ℕ) → (asked ≡ 0 → length (rowsOfWords out) ≡ n + n) → Holds (Rebuilds n turns) (unlessRefused asked out (listed (product n turns) 0 out))
-  rebuilds asked out size = holds-unless (Rebuilds n turns) asked out (listed (product n turns) 0 out) (refused-rebuilds out) (λ e. listed-rebuilds out (size e))
+  pub rebuilds : (asked : ℕ) (out : List ℕ) → (asked ≡ 0 → (n ≤ maxQubits) × (All (λ v. v < 2 ^ (n + n)) turns × (length (rowsOfWords n out) ≡ n + n))) → Holds (Rebuilds n turns) (unlessRefused asked out (listed n (product n turns) 0 out))
+  rebuilds asked out known =
+      holds-unless (Rebuilds n turns) asked out (listed n (product n turns) 0 out) (refused-rebuilds out) (λ e. listed-rebuilds (known e .0) (known e .1 .0) out (known e .1 .1))

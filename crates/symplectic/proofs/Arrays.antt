@@ -8,29 +8,35 @@ use native.Mathlib.Omega.{arith}
 use lib.ListN.{length, getD, set, take, drop, replicate}
 use lib.Seq.{take-at, take-take, take-append-le, getD-take, getD-at, drop-cons, length-take-le}
 use Rattle.binar.specs.declared.Row.{Row}
-use Rattle.binar.specs.Rows.{val, blank}
+use Rattle.binar.specs.Rows.{val}
+use Rattle.binar.specs.inner.Blank.{blank}
 use Rattle.blocks.specs.Blocks.{vals}
 use Rattle.blocks.specs.Matrices.{units}
+use Rattle.blocks.proofs.Units.{take-map}
 use Rattle.blocks.proofs.Values.{vals-get, vals-set, vals-length, laid-more}
 use Rattle.symplectic.specs.declared.Action.{Action}
-use Rattle.symplectic.specs.Actions.{maxQubits, capped, qubits, matrix, padded}
+use Rattle.symplectic.specs.Actions.{maxQubits, mostRows, capped, qubits, matrix, padded}
 use Rattle.symplectic.specs.Turns.{turn, followed}
 
 -- ---- the qubits and the rows of an action
 
-pub capped-le : (n : ℕ) → capped n ≤ 32
-unfolding capped maxQubits
+pub capped-le : (n : ℕ) → capped n ≤ maxQubits
+unfolding capped
 capped-le n = omega arith
 
-pub capped-is : (n : ℕ) → n ≤ 32 → capped n ≡ n
-unfolding capped maxQubits
+pub capped-is : (n : ℕ) → n ≤ maxQubits → capped n ≡ n
+unfolding capped
 capped-is n h = omega arith
 
-pub qubits-le : (a : Action) → qubits a ≤ 32
+pub qubits-le : (a : Action) → qubits a ≤ maxQubits
 unfolding qubits
 qubits-le a = capped-le (a .n)
 
-pub matrix-length : (a : Action) → length (a .rows) ≡ 64 → length (matrix a) ≡ qubits a + qubits a
+pub qubits-capped : (a : Action) → qubits a ≡ capped (a .n)
+unfolding qubits
+qubits-capped a = refl
+
+pub matrix-length : (a : Action) → length (a .rows) ≡ mostRows → length (matrix a) ≡ qubits a + qubits a
 unfolding matrix
 matrix-length a long =
     length-take-le (qubits a + qubits a) (vals (a .rows)) (omega (arith, qubits-le a, vals-length (a .rows)))
@@ -58,12 +64,7 @@ pub rows-front : (m l : List ℕ) (i k : ℕ) → k ≤ i → i ≤ length m →
 rows-front m l i k h g =
     take-append-le k (take i m) (drop i l) (omega (arith, length-take-le i m g)) ∙ take-take k i m h
 
--- ---- the rows of a turn, of the identity and of lent words
-
-pub take-map : (f : ℕ → ℕ) (k : ℕ) (l : List ℕ) → take k (map f l) ≡ map f (take k l)
-take-map f zero l = refl
-take-map f (suc k) [] = refl
-take-map f (suc k) (x ∷ l) = ap (λ (m : List ℕ). f x ∷ m) (take-map f k l)
+-- ---- the rows of a turn and of lent words
 
 pub followed-take : (n k : ℕ) (l : List ℕ) (v : ℕ) → take k (followed n l v) ≡ followed n (take k l) v
 unfolding followed
@@ -74,18 +75,6 @@ unfolding followed
 followed-at n [] v i h = absurd (not-suc-le-zero h)
 followed-at n (x ∷ l) v zero h = refl
 followed-at n (x ∷ l) v (suc i) h = followed-at n l v i (le-of-suc-le-suc h)
-
-pub take-units : (k m : ℕ) → k ≤ m → take k (units m) ≡ units k
-unfolding units
-take-units zero m h = refl
-take-units (suc k) zero h = absurd (not-suc-le-zero h)
-take-units (suc k) (suc m) h =
-    ap (λ (l : List ℕ). 1 ∷ l) (take-map (λ u. u * 2) k (units m) ∙ ap (map (λ u. u * 2)) (take-units k m (le-of-suc-le-suc h)))
-
-pub vals-replicate : (m : ℕ) (z : Row) → val z ≡ 0 → vals (replicate m z) ≡ replicate m 0
-unfolding vals
-vals-replicate zero z e = refl
-vals-replicate (suc m) z e = ap₂ _∷_ e (vals-replicate m z e)
 
 take-replicate : (k m : ℕ) → k ≤ m → _≡_ {A = List ℕ} (take k (replicate m 0)) (replicate k 0)
 take-replicate zero m h = refl
@@ -112,7 +101,7 @@ unfolding padded
 padded-is m w e = take-at w (replicate m 0) m e
 
 -- an action loaded from exactly as many words as there are rows, at no more qubits than the most
-pub loaded : (a : Action) (n : ℕ) (w : List ℕ) → n ≤ 32 → length w ≡ n + n → qubits a ≡ capped n → matrix a ≡ padded (capped n + capped n) w → (qubits a ≡ n) × (matrix a ≡ w)
+pub loaded : (a : Action) (n : ℕ) (w : List ℕ) → n ≤ maxQubits → length w ≡ n + n → qubits a ≡ capped n → matrix a ≡ padded (capped n + capped n) w → (qubits a ≡ n) × (matrix a ≡ w)
 loaded a n w h size q m =
     let e = capped-is n h in
     (q ∙ e, m ∙ padded-is (capped n + capped n) w (size ∙ ap (λ (k : ℕ). k + k) (sym e)))

@@ -18,7 +18,8 @@ use Rattle.linear.proofs.Sums.{swap4, self-left, eq-of-sum}
 use Rattle.linear.proofs.Instances.{𝔹, 𝕎}
 use Rattle.linear.proofs.Maps.{same-of-beq}
 use Rattle.linear.proofs.Rows.{zero-by-units}
-use Rattle.symplectic.specs.Turns.{pairing, run, followed, product, allOf, pairAlike, symplectic, identityPlus}
+use Rattle.symplectic.specs.Turns.{pairing, followed, product, allOf, pairAlike, symplectic, identityPlus}
+use Rattle.symplectic.specs.inner.Vectors.{run}
 use Rattle.symplectic.proofs.Lists.{map-eq, all-true, true-all, zip-map, zipWith-map}
 use Rattle.symplectic.proofs.Pairings.{𝕡, pairing-sum, pairing-comm, pairing-zero, pair-over}
 use Rattle.symplectic.proofs.Products.{run-sum, run-over, run-pairing, run-times, turn-pairing, followed-times, followed-length, product-run, product-length}

@@ -8,13 +8,16 @@ use native.Mathlib.Omega.{arith}
 use lib.Arith.{digits-lt}
 use lib.Pow.{pow-pos, pow-lt, pow-mono, pow-add, mod-pow-add, split, shl-shr, high, low}
 use Rattle.binar.specs.Bits.{_⊻_, select, bit, _⊕_, dot}
+use Rattle.binar.specs.Rows.{width, rowBound}
+use Rattle.binar.proofs.Widths.{pow-bound}
 use Rattle.binar.proofs.Sums.{bxor-comm, bxor-self, sum-zero, zero-sum, sum-low, sum-down, sum-parts, by-parts, same-bits, bit-of-zero}
 use Rattle.binar.proofs.Dots.{dot-comm, dot-sum, dot-zero, dot-parts}
 use Rattle.binar.proofs.Ones.{dot-unit}
 use Rattle.linear.specs.Maps.{Pairing}
 use Rattle.linear.proofs.Instances.{𝔹, 𝕎}
 use Rattle.linear.proofs.Maps.{map-o}
-use Rattle.symplectic.specs.Turns.{xBits, zBits, pairing, turn, swapHalves}
+use Rattle.symplectic.specs.Turns.{xBits, zBits, pairing, turn}
+use Rattle.symplectic.specs.inner.Vectors.{swapHalves}
 
 -- ---- the two halves
 
@@ -74,13 +77,13 @@ pub swap-over : (n h : ℕ) → swapHalves n (h * 2 ^ (n + n)) ≡ 0
 unfolding swapHalves
 swap-over n h = ap₂ (λ s t. s * 2 ^ n + t) (x-over n h) (z-over n h) ∙ omega arith
 
--- by its halves, in rows of w columns
-pub swap-rows : (w n v : ℕ) → n + n ≤ w → (xBits n v * 2 ^ n % 2 ^ w) ⊕ zBits n v ≡ swapHalves n v
+-- by its halves, in rows that have columns enough
+pub swap-rows : (n v : ℕ) → n + n ≤ width → (xBits n v * 2 ^ n % rowBound) ⊕ zBits n v ≡ swapHalves n v
 unfolding swapHalves
-swap-rows w n v h =
+swap-rows n v h =
     let x = xBits n v in
     let z = zBits n v in
-    let fits : x * 2 ^ n < 2 ^ w = omega (arith, swap-lt n v, pow-mono h) in
+    let fits : x * 2 ^ n < rowBound = omega (arith, swap-lt n v, pow-bound (n + n) h) in
     ap₂ _⊕_ (mod-eq-of-lt fits ∙ sym (add-zero (x * 2 ^ n))) zero-high ∙ sum-parts n x 0 0 z (pow-pos n) (z-lt n v)
     ∙ ap₂ (λ s t. s * 2 ^ n + t) (sum-zero x) (zero-sum z)
   where

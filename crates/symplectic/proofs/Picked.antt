@@ -7,7 +7,7 @@ use mathlib.Core.Option.{Option, none, some}
 use Rattle.binar.specs.Bits.{_⊻_}
 use Rattle.binar.proofs.Sums.{bxor-comm}
 use Rattle.blocks.specs.Matrices.{All}
-use Rattle.linear.specs.Space.{Space, scale}
+use Rattle.linear.specs.VectorSpace.{VectorSpace, scale}
 use Rattle.linear.specs.Span.{InSpan}
 use Rattle.linear.specs.Maps.{Additive, Form}
 use Rattle.linear.proofs.Sums.{add-zero, cancel-right, swap4, scale-o}
@@ -16,8 +16,8 @@ use Rattle.linear.proofs.Exchange.{span-add, span-head, span-skip}
 use Rattle.linear.proofs.Maps.{map-o, map-scale, span-kernel}
 use Rattle.symplectic.specs.Picks.{orIf, orElse, firstOne, unevenWith, firstUneven, pick}
 
-module _ (S : Space) (F : Form S) where
-  open Space S using (Car, add as _⊕_, o)
+module _ (S : VectorSpace) (F : Form S) where
+  open VectorSpace S using (Car, add as _⊕_, o)
 
   infixl 60 _⊕_
   abbrev pub E : Car → Car → Bool

@@ -16,7 +16,8 @@ use Rattle.linear.proofs.Sums.{swap4, eq-of-sum}
 use Rattle.linear.proofs.Instances.{𝕎}
 use Rattle.linear.proofs.Maps.{span-kernel}
 use Rattle.linear.proofs.Rows.{map-times, units-span}
-use Rattle.symplectic.specs.Turns.{pairing, turn, run, followed, followedBy, product}
+use Rattle.symplectic.specs.Turns.{pairing, turn, followed, followedBy, product}
+use Rattle.symplectic.specs.inner.Vectors.{run}
 use Rattle.symplectic.proofs.Lists.{eq-map}
 use Rattle.symplectic.proofs.Pairings.{𝕡, pairing-comm, pair-over}
 use Rattle.symplectic.proofs.Transvections.{transvection, turn-add, turn-pairs, turn-none, act, act-add, act-pairs, act-reverse}

@@ -11,7 +11,7 @@ use borrow.Author.Tests.{ltb-true, leb-true, eqb-true, le-leb, lt-leb, eq-eqb, n
 use Rattle.blocks.specs.Matrices.{All}
 use Rattle.blocks.proofs.All.{All·map}
 use Rattle.symplectic.specs.Actions.{maxQubits}
-use Rattle.symplectic.specs.Turns.{symplectic}
+use Rattle.symplectic.specs.Turns.{allOf, symplectic}
 use Rattle.symplectic.specs.Replies.{Reply, refused, ask, andThen, unlessRefused, fitAll, sizeQuestion, countQuestion, actionQuestions, listQuestions}
 use Rattle.symplectic.proofs.Lists.{all-true}
 
@@ -22,22 +22,26 @@ pub ask-passed : (b : Bool) (k later : ℕ) → ask b (suc k) later ≡ 0 → (b
 ask-passed true k later e = (refl, e)
 ask-passed false k later e = absurd (omega arith)
 
+pub fit-all-is : (m : ℕ) (rows : List ℕ) → fitAll m rows ≡ allOf (λ v. ltb v (2 ^ m)) rows
+unfolding fitAll
+fit-all-is m rows = refl
+
 pub fit-all : (m : ℕ) (rows : List ℕ) → fitAll m rows ≡ true → All (λ f. f < 2 ^ m) rows
 unfolding fitAll
 fit-all m rows e = All·map (λ v t. ltb-true v (2 ^ m) t) rows (all-true (λ v. ltb v (2 ^ m)) rows e)
 
 module _ (n later : ℕ) where
-  pub size-refused : 32 < n → sizeQuestion n later ≡ 1
-  unfolding sizeQuestion maxQubits
-  size-refused h = ap (λ (b : Bool). ask b 1 later) (lt-leb n 32 h)
+  pub size-refused : maxQubits < n → sizeQuestion n later ≡ 1
+  unfolding sizeQuestion
+  size-refused h = ap (λ (b : Bool). ask b 1 later) (lt-leb n maxQubits h)
 
-  pub size-passed : n ≤ 32 → sizeQuestion n later ≡ later
-  unfolding sizeQuestion maxQubits
-  size-passed h = ap (λ (b : Bool). ask b 1 later) (le-leb n 32 h)
+  pub size-passed : n ≤ maxQubits → sizeQuestion n later ≡ later
+  unfolding sizeQuestion
+  size-passed h = ap (λ (b : Bool). ask b 1 later) (le-leb n maxQubits h)
 
-  pub size-known : sizeQuestion n later ≡ 0 → (n ≤ 32) × (later ≡ 0)
-  unfolding sizeQuestion maxQubits
-  size-known e = let k = ask-passed (leb n 32) 0 later e in (leb-true n 32 (k .0), k .1)
+  pub size-known : sizeQuestion n later ≡ 0 → (n ≤ maxQubits) × (later ≡ 0)
+  unfolding sizeQuestion
+  size-known e = let k = ask-passed (leb n maxQubits) 0 later e in (leb-true n maxQubits (k .0), k .1)
 
   module _ (rows : List ℕ) where
     pub count-refused : (length rows ≡ n + n → ⊥) → countQuestion n rows later ≡ 2
@@ -61,33 +65,33 @@ module _ (n : ℕ) (rows : List ℕ) where
   last : ℕ
   last = ask (symplectic n rows) 4 0
 
-  pub question-1 : 32 < n → actionQuestions n rows ≡ 1
+  pub question-1 : maxQubits < n → actionQuestions n rows ≡ 1
   unfolding actionQuestions
   question-1 h = size-refused n _ h
 
-  counted : n ≤ 32 → length rows ≡ n + n → actionQuestions n rows ≡ ask fits 3 last
+  counted : n ≤ maxQubits → length rows ≡ n + n → actionQuestions n rows ≡ ask fits 3 last
   unfolding actionQuestions fits last
   counted h e = size-passed n _ h ∙ count-passed n _ rows e
 
-  pub question-2 : n ≤ 32 → (length rows ≡ n + n → ⊥) → actionQuestions n rows ≡ 2
+  pub question-2 : n ≤ maxQubits → (length rows ≡ n + n → ⊥) → actionQuestions n rows ≡ 2
   unfolding actionQuestions
   question-2 h k = size-passed n _ h ∙ count-refused n _ rows k
 
-  pub question-3 : n ≤ 32 → length rows ≡ n + n → fitAll (n + n) rows ≡ false → actionQuestions n rows ≡ 3
+  pub question-3 : n ≤ maxQubits → length rows ≡ n + n → fitAll (n + n) rows ≡ false → actionQuestions n rows ≡ 3
   unfolding fits
   question-3 h e f = counted h e ∙ ap (λ (b : Bool). ask b 3 last) f
 
-  pub question-4 : n ≤ 32 → length rows ≡ n + n → fitAll (n + n) rows ≡ true → symplectic n rows ≡ false → actionQuestions n rows ≡ 4
+  pub question-4 : n ≤ maxQubits → length rows ≡ n + n → fitAll (n + n) rows ≡ true → symplectic n rows ≡ false → actionQuestions n rows ≡ 4
   unfolding fits last
   question-4 h e f s = counted h e ∙ ap (λ (b : Bool). ask b 3 last) f ∙ ap (λ (b : Bool). ask b 4 0) s
 
-  pub questions-passed : n ≤ 32 → length rows ≡ n + n → fitAll (n + n) rows ≡ true → symplectic n rows ≡ true → actionQuestions n rows ≡ 0
+  pub questions-passed : n ≤ maxQubits → length rows ≡ n + n → fitAll (n + n) rows ≡ true → symplectic n rows ≡ true → actionQuestions n rows ≡ 0
   unfolding fits last
   questions-passed h e f s = counted h e ∙ ap (λ (b : Bool). ask b 3 last) f ∙ ap (λ (b : Bool). ask b 4 0) s
 
   -- what is known of an action that passed
   module _ (passed : actionQuestions n rows ≡ 0) where
-    pub passed-size : n ≤ 32
+    pub passed-size : n ≤ maxQubits
     unfolding actionQuestions
     passed-size = size-known n _ passed .0
 
@@ -141,6 +145,25 @@ module _ (n : ℕ) (rows : List ℕ) (wanted lent : ℕ) where
       known : (first : ℕ) → andThen first (ask (leb wanted lent) 5 0) ≡ 0 → (first ≡ 0) × (wanted ≤ lent)
       known zero p = (refl, leb-true wanted lent (ask-passed (leb wanted lent) 4 0 p .0))
       known (suc k) p = absurd (omega arith)
+
+-- ---- the questions of a list call have numbers up to 5
+
+ask-small : (b : Bool) (k later : ℕ) → k ≤ 5 → later ≤ 5 → ask b k later ≤ 5
+ask-small true k later h l = l
+ask-small false k later h l = h
+
+then-small : (first later : ℕ) → first ≤ 5 → later ≤ 5 → andThen first later ≤ 5
+then-small zero later h l = l
+then-small (suc k) later h l = h
+
+pub list-small : (n : ℕ) (rows : List ℕ) (wanted lent : ℕ) → listQuestions n rows wanted lent ≤ 5
+unfolding listQuestions actionQuestions sizeQuestion countQuestion
+list-small n rows wanted lent =
+    then-small _ _
+    (ask-small (leb n maxQubits) 1 _ (omega arith)
+    (ask-small (eqb (length rows) (n + n)) 2 _ (omega arith)
+    (ask-small (fitAll (n + n) rows) 3 _ (omega arith) (ask-small (symplectic n rows) 4 0 (omega arith) (omega arith)))))
+    (ask-small (leb wanted lent) 5 0 (omega arith) (omega arith))
 
 -- ---- the reply
 

@@ -11,7 +11,8 @@ use lib.ListN.{length, getD, take}
 use lib.Seq.{take-all}
 use Rattle.blocks.specs.Matrices.{units}
 use Rattle.blocks.proofs.Units.{units-length, units-at}
-use Rattle.symplectic.specs.Turns.{pairing, allOf, pairAlike, symplectic, pairsAsBasis}
+use Rattle.symplectic.specs.Turns.{pairing, allOf, pairAlike, symplectic}
+use Rattle.symplectic.specs.inner.Vectors.{pairsAsBasis}
 
 -- ---- any test
 

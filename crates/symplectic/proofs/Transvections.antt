@@ -3,7 +3,7 @@
 use mathlib.Core.Path.{_≡_, refl, sym, ap, ap₂, _∙_}
 use mathlib.Core.Bool.{Bool, true, false}
 use mathlib.Core.List.{List, [], _∷_, _++_, reverse, reverse-cons}
-use Rattle.linear.specs.Space.{Space, scale}
+use Rattle.linear.specs.VectorSpace.{VectorSpace, scale}
 use Rattle.binar.specs.Bits.{_⊻_}
 use Rattle.linear.proofs.Sums.{add-zero, cancel-right, swap4, scale-xor, scale-o}
 use Rattle.linear.specs.Span.{InSpan}
@@ -21,8 +21,8 @@ twice false true false = refl
 twice false false true = refl
 twice false false false = refl
 
-module _ (S : Space) (ω : Pairing S) where
-  open Space S using (Car, add as _⊕_, o, add-assoc, add-comm, add-self, zero-add)
+module _ (S : VectorSpace) (ω : Pairing S) where
+  open VectorSpace S using (Car, add as _⊕_, o, add-assoc, add-comm, add-self, zero-add)
 
   infixl 60 _⊕_
   unfoldable pub transvection : Car → Car → Car

@@ -5,7 +5,7 @@ use mathlib.Core.Bool.{Bool, true, false, true≢false}
 use mathlib.Core.List.{List, [], _∷_, map}
 use Prim.Native.Nat.{_≤_}
 use lib.ListN.{length, length-map}
-use Rattle.linear.specs.Space.{Space, scale}
+use Rattle.linear.specs.VectorSpace.{VectorSpace, scale}
 use Rattle.binar.specs.Bits.{_⊻_}
 use Rattle.linear.proofs.Sums.{add-zero, left-comm, self-left, cancel-right, eq-of-sum, solve4}
 use Rattle.blocks.specs.Matrices.{All}
@@ -20,20 +20,20 @@ use Rattle.linear.proofs.Maps.{pairing-left, map-at, map-o, span-map, span-unma
 use Rattle.symplectic.proofs.Transvections.{transvection, turn-is, act, act-span, act-tail, turn-none}
 
 -- what an action adds to a vector: additive, and the action keeps the pairing
-pub record Residue (S : Space) (ω : Pairing S) : Type 0 where
+pub record Residue (S : VectorSpace) (ω : Pairing S) : Type 0 where
   pub of : S .Car → S .Car
   pub of-add : Additive S S of
   pub pairs : (x y : S .Car) → ω .at (of x) (of y) ≡ ω .at (of x) y ⊻ ω .at x (of y)
 
 -- an action that keeps the pairing
-pub pairs-of : (S : Space) (ω : Pairing S) (f : S .Car → S .Car)
+pub pairs-of : (S : VectorSpace) (ω : Pairing S) (f : S .Car → S .Car)
     → ((x y : S .Car) → ω .at (S .add x (f x)) (S .add y (f y)) ≡ ω .at x y) → (x y : S .Car) → ω .at (f x) (f y) ≡ ω .at (f x) y ⊻ ω .at x (f y)
 pairs-of S ω f k x y =
     solve4 𝔹 (ω .at x y) (ω .at x (f y)) (ω .at (f x) y) (ω .at (f x) (f y))
     (sym (pairing-left S ω (S .add y (f y)) x (f x) ∙ ap₂ _⊻_ (ω .right x y (f y)) (ω .right (f x) y (f y))) ∙ k x y)
 
 -- and back: the action of a residue keeps the pairing
-pub kept : (S : Space) (ω : Pairing S) (N : Residue S ω) (x y : S .Car) → ω .at (S .add x (N .of x)) (S .add y (N .of y)) ≡ ω .at x y
+pub kept : (S : VectorSpace) (ω : Pairing S) (N : Residue S ω) (x y : S .Car) → ω .at (S .add x (N .of x)) (S .add y (N .of y)) ≡ ω .at x y
 kept S ω N x y =
     pairing-left S ω (S .add y (N .of y)) x (N .of x) ∙ ap₂ _⊻_ (ω .right x y (N .of y)) (ω .right (N .of x) y (N .of y))
     ∙ ap (λ t. (ω .at x y ⊻ ω .at x (N .of y)) ⊻ (ω .at (N .of x) y ⊻ t)) (N .pairs x y)
@@ -41,9 +41,9 @@ kept S ω N x y =
     ∙ cancel-right 𝔹 (ω .at x y) (ω .at x (N .of y))
 
 -- the product of the turns of a triangular list, where the pairing of the images is the form and its opposite together
-module _ (S : Space) (ω : Pairing S) (Q : Space) (f : Q .Car → S .Car) (f-add : Additive Q S f) (K : Q .Car → Q .Car → Bool)
+module _ (S : VectorSpace) (ω : Pairing S) (Q : VectorSpace) (f : Q .Car → S .Car) (f-add : Additive Q S f) (K : Q .Car → Q .Car → Bool)
     (K-right : (p : Q .Car) → Additive Q 𝔹 (K p)) (K-sum : (p q : Q .Car) → ω .at (f p) (f q) ≡ K p q ⊻ K q p) where
-  open Space S using (Car, add as _⊕_, o, add-assoc, add-comm, add-self, zero-add)
+  open VectorSpace S using (Car, add as _⊕_, o, add-assoc, add-comm, add-self, zero-add)
 
   infixl 60 _⊕_
   pub act-of-tri : (ps : List (Q .Car)) → Tri K ps → (q : Q .Car) → InSpan Q ps q → (y : Car)
@@ -82,8 +82,8 @@ module _ (S : Space) (ω : Pairing S) (Q : Space) (f : Q .Car → S .Car) (f-add
   indep-of-tri [] t = tt
   indep-of-tri (p ∷ ps) t = (λ h. true≢false (sym (t .0) ∙ span-kernel Q 𝔹 (K p) (K-right p) ps (t .1) p h), indep-of-tri ps (t .2))
 
-module _ (S : Space) (ω : Pairing S) (N : Residue S ω) (P : Space) (ψ : P .Car → S .Car) (ψ-add : Additive P S ψ) where
-  open Space S using (Car, add as _⊕_, o, add-assoc, add-comm, add-self, zero-add)
+module _ (S : VectorSpace) (ω : Pairing S) (N : Residue S ω) (P : VectorSpace) (ψ : P .Car → S .Car) (ψ-add : Additive P S ψ) where
+  open VectorSpace S using (Car, add as _⊕_, o, add-assoc, add-comm, add-self, zero-add)
 
   infixl 60 _⊕_
   abbrev pub φ : P .Car → Car

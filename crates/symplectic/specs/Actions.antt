@@ -6,9 +6,12 @@ use lib.ListN.{take, replicate}
 use Rattle.blocks.specs.Blocks.{vals}
 use Rattle.symplectic.specs.declared.Action.{Action}
 
--- the most qubits of an action (question 1)
-unfoldable pub maxQubits : ℕ
+-- the most qubits of an action (question 1), and the most rows. Plain numbers, open to users
+abbrev pub maxQubits : ℕ
 maxQubits = 32
+
+abbrev pub mostRows : ℕ
+mostRows = 64
 
 unfoldable pub capped : ℕ → ℕ
 capped n = min n maxQubits

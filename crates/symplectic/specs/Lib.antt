@@ -3,3 +3,4 @@ pub mod Picks
 pub mod Actions
 pub mod Replies
 pub mod Answers
+pub mod inner

@@ -9,30 +9,23 @@ use lib.ListN.{length, take}
 use Rattle.blocks.specs.Words.{rowsOfWords, laid}
 use Rattle.symplectic.specs.Actions.{maxQubits}
 use Rattle.symplectic.specs.Turns.{allOf, symplectic, product}
-use Rattle.symplectic.specs.declared.Told.{Told}
+use Rattle.symplectic.specs.declared.Figures.{Figures}
 
--- a call's whole answer
+-- a call's whole answer. This record and the two below are plain data, open to users
 pub record Reply : Type 0 where
-  -- 0 for an answer, else the number of the question that was answered no
-  pub number : ℕ
-  -- how many vectors or rows were listed
-  pub count : ℕ
-  -- how many draws (document 01: looks) the search took
-  pub looks : ℕ
+  -- its number (0 for an answer, else that of the question that was answered no), how many vectors or rows it listed, and how many
+  -- draws (document 01: looks) its search took
+  pub figures : Figures
   -- the lent output words as the call leaves them
   pub words : List ℕ
 
--- an answer without the lent words
-unfoldable pub toldOf : Reply → Told
-toldOf r = record { number = r .number; count = r .count; looks = r .looks }
-
 -- a refusal has count 0 and leaves the lent words unchanged
-unfoldable pub refused : ℕ → ℕ → List ℕ → Reply
-refused number looks out = record { number = number; count = 0; looks = looks; words = out }
+abbrev pub refused : ℕ → ℕ → List ℕ → Reply
+refused number looks out = record { figures = record { number = number; count = 0; looks = looks }; words = out }
 
--- an answer stands in the lent words from their start; words past it are unchanged
-unfoldable pub listed : List ℕ → ℕ → List ℕ → Reply
-listed vs looks out = record { number = 0; count = length vs; looks = looks; words = laid vs out }
+-- an answer, vectors of n qubits, stands in the lent words from their start; words past it are unchanged
+abbrev pub listed : ℕ → List ℕ → ℕ → List ℕ → Reply
+listed n vs looks out = record { figures = record { number = 0; count = length vs; looks = looks }; words = laid n vs out }
 
 -- the first no gives its number; 0 where every question is passed
 abbrev pub ask : Bool → ℕ → ℕ → ℕ
@@ -53,7 +46,7 @@ unlessRefused (suc number) out answer = refused (suc number) 0 out
 unfoldable pub fitAll : ℕ → List ℕ → Bool
 fitAll m rows = allOf (λ v. ltb v (2 ^ m)) rows
 
--- 1: is n at most 32?
+-- 1: is n at most the most qubits?
 unfoldable pub sizeQuestion : ℕ → ℕ → ℕ
 sizeQuestion n later = ask (leb n maxQubits) 1 later
 
@@ -70,12 +63,12 @@ actionQuestions n rows =
 unfoldable pub listQuestions : ℕ → List ℕ → ℕ → ℕ → ℕ
 listQuestions n rows wanted lent = andThen (actionQuestions n rows) (ask (leb wanted lent) 5 0)
 
--- ---- what an answer promises
+-- ---- what an answer promises, open to users
 
 -- of a list call: the product of the vectors left is the whole lent action
-unfoldable pub Replays : ℕ → List ℕ → List ℕ → Told → Type 0
-Replays n rows left t = t .number ≡ 0 → product n (take (t .count) (rowsOfWords left)) ≡ rowsOfWords rows
+abbrev pub Replays : ℕ → List ℕ → List ℕ → Figures → Type 0
+Replays n rows left t = t .number ≡ 0 → product n (take (t .count) (rowsOfWords n left)) ≡ rowsOfWords n rows
 
 -- of a call that multiplies turns out: the words left are their whole product
-unfoldable pub Rebuilds : ℕ → List ℕ → List ℕ → Told → Type 0
-Rebuilds n turns left t = t .number ≡ 0 → rowsOfWords left ≡ product n turns
+abbrev pub Rebuilds : ℕ → List ℕ → List ℕ → Figures → Type 0
+Rebuilds n turns left t = t .number ≡ 0 → rowsOfWords n left ≡ product n turns

@@ -4,7 +4,6 @@
 use mathlib.Core.Bool.{Bool, true, _&&_, Bool·beq}
 use mathlib.Core.List.{List, [], _∷_, map, zip, zipWith}
 use Prim.Native.Nat.{ℕ, _+_, _*_, _/_, _%_, _^_}
-use lib.ListN.{getD}
 use Rattle.binar.specs.Bits.{_⊻_, select, _⊕_, dot}
 use Rattle.blocks.specs.Matrices.{units}
 
@@ -22,11 +21,6 @@ pairing n u v = dot (xBits n u) (zBits n v) ⊻ dot (zBits n u) (xBits n v)
 -- the transvection (document 01: turn) of v sends u to u + <u,v>v
 unfoldable pub turn : ℕ → ℕ → ℕ → ℕ
 turn n v u = u ⊕ select 0 (pairing n u v) v
-
--- a vector sent through the turns of a list, in order
-abbrev pub run : ℕ → List ℕ → ℕ → ℕ
-run n [] u = u
-run n (v ∷ vs) u = run n vs (turn n v u)
 
 -- a matrix followed by the turn of v
 unfoldable pub followed : ℕ → List ℕ → ℕ → List ℕ
@@ -53,14 +47,6 @@ pairAlike n a b = Bool·beq (pairing n (a .0) (b .0)) (pairing n (a .1) (b .1))
 -- F is symplectic: its rows pair as the basis does
 unfoldable pub symplectic : ℕ → List ℕ → Bool
 symplectic n F = let rows = zip F (units (n + n)) in allOf (λ a. allOf (pairAlike n a) rows) rows
-
--- row i pairs with every row as its basis vector does with theirs
-unfoldable pub pairsAsBasis : ℕ → List ℕ → ℕ → Bool
-pairsAsBasis n F i = allOf (pairAlike n (getD F i 0, 2 ^ i)) (zip F (units (n + n)))
-
--- a vector with its halves exchanged
-unfoldable pub swapHalves : ℕ → ℕ → ℕ
-swapHalves n v = xBits n v * 2 ^ n + zBits n v
 
 -- I + F
 unfoldable pub identityPlus : ℕ → List ℕ → List ℕ

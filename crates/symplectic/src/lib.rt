@@ -1,26 +1,34 @@
 // Actions on qubits: the pairing, turns, products, the symplectic test, and the questions that calls share.
 // In the source: transvection_exact.rs, `action_matrix`, `transvection_matrix`, `symplectic_dual`, `right_multiply_transvection`; the questions are added.
 use binar::Row;
+use blocks::Block;
 ghost use mathlib.Core.Path.{_≡_};
 ghost use Prim.Native.Nat.{_+_, _<_, _≤_};
 ghost use Rattle.binar.specs.Bits.{_⊕_, select, dot};
 ghost use Rattle.binar.specs.Rows.{val};
+ghost use Rattle.blocks.specs.Blocks.{rowsOf};
 ghost use Rattle.blocks.specs.Matrices.{units};
 ghost use Rattle.blocks.specs.Words.{rowsOfWords, laid};
-ghost use Rattle.symplectic.specs.Turns.{swapHalves, followed as followedOf, product as productOf, symplectic, pairsAsBasis};
-ghost use Rattle.symplectic.specs.Actions.{capped, qubits, matrix, padded};
+ghost use Rattle.symplectic.specs.Turns.{followed as followedOf, product as productOf, symplectic};
+ghost use Rattle.symplectic.specs.inner.Vectors.{swapHalves, pairsAsBasis};
+ghost use Rattle.symplectic.specs.Actions.{maxQubits, capped, qubits, matrix, padded};
 ghost use Rattle.symplectic.specs.Replies.{fitAll, actionQuestions};
 ghost use Rattle.symplectic.specs.Answers.{numberOf};
+
+// The most qubits of an action, and the most rows.
+pub const MAX_QUBITS: u64 = 32;
+
+pub const MOST_ROWS: usize = 64;
 
 // The qubit count and the rows: row k is the image of basis vector k.
 pub struct Action {
     pub n: u64,
-    pub rows: [Row; 64],
+    pub rows: [Row; MOST_ROWS],
 }
 
-// A call's answer without the lent words: 0 or the number of the question that was answered no, how many words it listed, and how
+// The figures of a call's answer: 0 or the number of the question that was answered no, how many vectors or rows it listed, and how
 // many draws its search took.
-pub struct Told {
+pub struct Figures {
     pub number: u64,
     pub count: u64,
     pub looks: u64,
@@ -35,26 +43,20 @@ pub enum Question {
     NotSymplectic,
 }
 
-pub fn telling(number: u64, count: u64, looks: u64) -> Told
-    ensures { λ r. ⌜ r ≡ record { number = number; count = count; looks = looks } ⌝ }
-{
-    Told {
-        number: number,
-        count: count,
-        looks: looks,
-    }
-}
-
-// The qubits of an action: n, and 32 where n is above that.
-pub fn width(a: Action) -> usize
+// The qubits of an action: n, and the most where n is above that.
+pub fn qubits_of(a: Action) -> usize
     ensures { λ r. ⌜ r ≡ qubits a ⌝ }
 {
-    if a.n < 32 { a.n as usize } else { 32 }
+    if a.n < MAX_QUBITS {
+        a.n as usize
+    } else {
+        MAX_QUBITS as usize
+    }
 }
 
 // A vector with its halves exchanged: its dot with a vector is their pairing.
 fn swap_halves(n: usize, v: Row) -> Row
-    requires { ⌜ n ≤ 32 ⌝ }
+    requires { ⌜ n ≤ maxQubits ⌝ }
     ensures { λ r. ⌜ val r ≡ swapHalves n (val v) ⌝ }
 {
     let x = binar::low(v, n);
@@ -78,7 +80,7 @@ pub fn followed(a: Action, v: Row) -> Action
     ensures { λ r. ⌜ (qubits r ≡ qubits a) × (matrix r ≡ followedOf (qubits a) (matrix a) (val v)) ⌝ }
 {
     let mut b = a;
-    let n = width(a);
+    let n = qubits_of(a);
     let count = n + n;
     let s = swap_halves(n, v);
     for i in 0..count {
@@ -95,37 +97,37 @@ pub fn identity(n: u64) -> Action
     let z = binar::zero();
     let mut a = Action {
         n: n,
-        rows: [z; 64],
+        rows: [z; MOST_ROWS],
     };
-    for i in 0..64 {
+    for i in 0..MOST_ROWS {
         let u = binar::unit(i);
         a.rows[i] = u;
     }
     a
 }
 
-// The product of a lent list.
-pub fn product(n: u64, list: &[u64]) -> Action
-    ensures { λ r. ⌜ (qubits r ≡ capped n) × (matrix r ≡ productOf (capped n) (rowsOfWords (now (list .entry)))) ⌝ }
+// The product of the rows of a block.
+pub fn product(n: u64, b: Block) -> Action
+    ensures { λ r. ⌜ (qubits r ≡ capped n) × (matrix r ≡ productOf (capped n) (rowsOf b)) ⌝ }
 {
+    let count = blocks::length_of(b);
     let mut a = identity(n);
-    for i in 0..list.len() {
-        let v = binar::of_word(list[i]);
-        a = followed(a, v);
+    for t in 0..count {
+        a = followed(a, b.rows[t]);
     }
     a
 }
 
 // The action that lent words hold.
-pub fn load(n: u64, words: &[u64]) -> Action
-    ensures { λ r. ⌜ (qubits r ≡ capped n) × (matrix r ≡ padded (capped n + capped n) (rowsOfWords (now (words .entry)))) ⌝ }
+pub fn from_words(n: u64, words: &[u64]) -> Action
+    ensures { λ r. ⌜ (qubits r ≡ capped n) × (matrix r ≡ padded (capped n + capped n) (rowsOfWords n (now (words .entry)))) ⌝ }
 {
     let z = binar::zero();
     let mut a = Action {
         n: n,
-        rows: [z; 64],
+        rows: [z; MOST_ROWS],
     };
-    let count = blocks::lesser(words.len(), 64);
+    let count = blocks::lesser(words.len(), MOST_ROWS);
     for i in 0..count {
         let v = binar::of_word(words[i]);
         a.rows[i] = v;
@@ -135,9 +137,9 @@ pub fn load(n: u64, words: &[u64]) -> Action
 
 // The action's rows laid into lent words.
 pub fn store(a: Action, out: &mut [u64])
-    ensures { λ _. ⌜ now (out .exit) ≡ laid (matrix a) (now (out .entry)) ⌝ }
+    ensures { λ _. ⌜ now (out .exit) ≡ laid (qubits a) (matrix a) (now (out .entry)) ⌝ }
 {
-    let n = width(a);
+    let n = qubits_of(a);
     let count = blocks::lesser(n + n, out.len());
     for i in 0..count {
         let u = a.rows[i];
@@ -150,7 +152,7 @@ fn pairs_as_basis(a: Action, i: usize) -> bool
     requires { ⌜ i < qubits a + qubits a ⌝ }
     ensures { λ r. ⌜ r ≡ pairsAsBasis (qubits a) (matrix a) i ⌝ }
 {
-    let n = width(a);
+    let n = qubits_of(a);
     let count = n + n;
     let u = a.rows[i];
     let s = swap_halves(n, u);
@@ -167,7 +169,7 @@ fn pairs_as_basis(a: Action, i: usize) -> bool
 fn is_symplectic(a: Action) -> bool
     ensures { λ r. ⌜ r ≡ symplectic (qubits a) (matrix a) ⌝ }
 {
-    let n = width(a);
+    let n = qubits_of(a);
     let count = n + n;
     for i in 0..count {
         if !pairs_as_basis(a, i) {
@@ -177,12 +179,13 @@ fn is_symplectic(a: Action) -> bool
     true
 }
 
-// Whether each lent vector has only bits below m.
-pub fn fit_all(m: usize, words: &[u64]) -> bool
-    ensures { λ r. ⌜ r ≡ fitAll m (rowsOfWords (now (words .entry))) ⌝ }
+// Whether each row has only columns below m.
+pub fn fit_all(m: usize, b: Block) -> bool
+    ensures { λ r. ⌜ r ≡ fitAll m (rowsOf b) ⌝ }
 {
-    for i in 0..words.len() {
-        if !binar::fits(binar::of_word(words[i]), m) {
+    let k = blocks::length_of(b);
+    for i in 0..k {
+        if !binar::fits(b.rows[i], m) {
             return false;
         }
     }
@@ -191,9 +194,9 @@ pub fn fit_all(m: usize, words: &[u64]) -> bool
 
 // Questions 1 to 4.
 pub fn action_questions(n: u64, words: &[u64]) -> Question
-    ensures { λ r. ⌜ numberOf r ≡ actionQuestions n (rowsOfWords (now (words .entry))) ⌝ }
+    ensures { λ r. ⌜ numberOf r ≡ actionQuestions n (rowsOfWords n (now (words .entry))) ⌝ }
 {
-    if 32 < n {
+    if MAX_QUBITS < n {
         return Question::TooManyQubits;
     }
     let k = n as usize;
@@ -201,10 +204,10 @@ pub fn action_questions(n: u64, words: &[u64]) -> Question
     if words.len() != m {
         return Question::WrongRowCount;
     }
-    if !fit_all(m, words) {
+    if !fit_all(m, blocks::from_words(n, words)) {
         return Question::RowTooWide;
     }
-    if !is_symplectic(load(n, words)) {
+    if !is_symplectic(from_words(n, words)) {
         return Question::NotSymplectic;
     }
     Question::Passed

@@ -1,13 +1,13 @@
 -- The greedy list's next vector by indices: what stands at index i of I + F and beside its basis vector, and which vector is taken.
 -- Assumes nothing.
-use mathlib.Core.Path.{_≡_, refl, sym, ap, ap₂, _∙_, subst}
-use mathlib.Core.Bool.{Bool, not}
-use mathlib.Core.List.{List, [], _∷_, map}
+use mathlib.Core.Path.{_≡_, sym, ap, ap₂, _∙_, subst}
+use mathlib.Core.Bool.{Bool, true, false, not}
+use mathlib.Core.List.{List, map}
 use mathlib.Core.Option.{none, some}
 use Prim.Native.Nat.{ℕ, _+_, _^_, _≤_, _<_}
 use lib.Dec.{eqb}
 use lib.Pow.{pow-lt}
-use lib.ListN.{length, getD, drop, length-map}
+use lib.ListN.{length, getD, drop, length-map, drop-of-length-le}
 use borrow.Author.Tests.{eq-eqb, ne-eqb}
 use Rattle.binar.specs.Bits.{_⊻_, _⊕_}
 use Rattle.binar.proofs.Sums.{sum-comm}
@@ -20,25 +20,24 @@ use Rattle.symplectic.specs.Picks.{orIf, addBoth}
 use Rattle.symplectic.proofs.Layers.{added, added-is, identityPlus-is}
 use Rattle.transvection.specs.Greedy.{besideBasis, rowPairing, firstNonzero}
 use Rattle.transvection.proofs.Taken.{beside, besideBasis-is}
-use Rattle.symplectic.proofs.FirstPicks.{firstBy, by-skip, by-here, by-end, uneven}
+use Rattle.symplectic.proofs.FirstPicks.{drop-open, uneven}
 
 -- ---- the lowest nonzero row
 
-nonzero-by : (l : List ℕ) → firstNonzero l ≡ firstBy (λ v. not (eqb v 0)) (λ v. v) l
-unfolding firstNonzero firstBy
-nonzero-by [] = refl
-nonzero-by (v ∷ vs) = ap (orIf (not (eqb v 0)) v) (nonzero-by vs)
-
 module _ (l : List ℕ) (d : ℕ) where
+  nonzero-open : (i : ℕ) (b : Bool) → i < length l → eqb (getD l i d) 0 ≡ b → firstNonzero (drop i l) ≡ orIf (not b) (getD l i d) (firstNonzero (drop (i + 1) l))
+  unfolding firstNonzero
+  nonzero-open i b h e = ap firstNonzero (drop-open l i d h) ∙ ap (λ c. orIf (not c) (getD l i d) (firstNonzero (drop (i + 1) l))) e
+
   pub firstNonzero-skip : (i : ℕ) → i < length l → getD l i d ≡ 0 → firstNonzero (drop i l) ≡ firstNonzero (drop (i + 1) l)
-  firstNonzero-skip i h e =
-      nonzero-by (drop i l) ∙ by-skip (λ v. not (eqb v 0)) (λ v. v) l d i h (ap not (eq-eqb (getD l i d) 0 e)) ∙ sym (nonzero-by (drop (i + 1) l))
+  firstNonzero-skip i h e = nonzero-open i true h (eq-eqb (getD l i d) 0 e)
 
   pub firstNonzero-here : (i : ℕ) → i < length l → (getD l i d ≡ 0 → ⊥) → firstNonzero (drop i l) ≡ some (getD l i d)
-  firstNonzero-here i h e = nonzero-by (drop i l) ∙ by-here (λ v. not (eqb v 0)) (λ v. v) l d i h (ap not (ne-eqb (getD l i d) 0 e))
+  firstNonzero-here i h e = nonzero-open i false h (ne-eqb (getD l i d) 0 e)
 
   pub firstNonzero-end : (i : ℕ) → length l ≤ i → firstNonzero (drop i l) ≡ none
-  firstNonzero-end i h = nonzero-by (drop i l) ∙ by-end (λ v. not (eqb v 0)) (λ v. v) l d i h
+  unfolding firstNonzero
+  firstNonzero-end i h = ap firstNonzero (drop-of-length-le l h)
 
 -- ---- the rows of I + F
 

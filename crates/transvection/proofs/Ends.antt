@@ -1,11 +1,11 @@
 -- The greedy list ends by itself after at most two turns for each unit of the rank, and its product is the action.
 -- Assumes nothing.
-use mathlib.Core.Path.{_≡_, refl, sym, ap, _∙_, subst}
+use mathlib.Core.Path.{_≡_, refl, sym, ap, ap₂, _∙_, subst}
 use mathlib.Core.Bool.{Bool, true, false}
 use mathlib.Core.List.{List, [], _∷_, reverse, reverse-cons}
 use mathlib.Core.Option.{Option, none, some}
 use mathlib.Core.Logic.{⊎-elim}
-use Prim.Native.Nat.{ℕ, zero, suc, _+_, _*_, _/_, _%_, _^_, _≤_, _<_, zero-le, suc-le-suc}
+use Prim.Native.Nat.{ℕ, zero, suc, _+_, _*_, _/_, _^_, _≤_, _<_, zero-le, suc-le-suc}
 use native.Mathlib.Omega.{arith}
 use native.Mathlib.Nat.{le-refl, le-trans}
 use lib.Dec.{ltb}
@@ -16,10 +16,12 @@ use Rattle.binar.proofs.Sums.{sum-assoc}
 use Rattle.blocks.specs.Matrices.{times, units, All}
 use Rattle.blocks.proofs.All.{All·append}
 use Rattle.blocks.proofs.Units.{units-length}
+use Rattle.linear.proofs.Sums.{self-left}
 use Rattle.linear.proofs.Instances.{𝕎}
-use Rattle.symplectic.specs.Turns.{pairing, turn, followed, followedBy, product}
+use Rattle.symplectic.specs.Turns.{pairing, followed, followedBy, product}
 use Rattle.symplectic.proofs.Pairings.{𝕡, pairing-sum, pairing-comm, pair-over, nondegenerate}
-use Rattle.symplectic.proofs.Products.{followed-times, product-reverse}
+use Rattle.symplectic.proofs.Products.{turn-is-transvection, followed-times, product-reverse}
+use Rattle.symplectic.proofs.Transvections.{turn-is}
 use Rattle.symplectic.proofs.Wall.{Residue}
 use Rattle.symplectic.proofs.Layers.{added, added-sum, added-lt, image-parts, residueMap}
 use Rattle.transvection.specs.Greedy.{nextTransvection, recordNext, recorded, greedyList}
@@ -30,16 +32,24 @@ use Rattle.transvection.proofs.Records.{Action, followed-rows, recorded
 -- ---- what one turn more adds
 
 pub added-followed : (n : ℕ) (F : List ℕ) (v z : ℕ) → added n (followed n F v) z ≡ added n F z ⊕ select 0 (pairing n (z ⊕ added n F z) v) v
-unfolding added turn
 added-followed n F v z =
-    ap (λ t. z % 2 ^ (n + n) ⊕ t) (followed-times n F v z)
-    ∙ sym (sum-assoc (z % 2 ^ (n + n)) (times z F) (select 0 (pairing n (times z F) v) v))
-    ∙ ap (λ t. added n F z ⊕ select 0 t v) (pairing-comm n (times z F) v ∙ sym image ∙ pairing-comm n v (z ⊕ added n F z))
+    sym (self-left 𝕎 z (added n (followed n F v) z))
+    ∙ ap (λ t. z ⊕ t) (image-parts n (followed n F v) z ∙ ap (λ t. high ⊕ t) turned ∙ sym (sum-assoc high (times z F) step) ∙ ap (λ t. t ⊕ step) (sym (image-parts n F z)))
+    ∙ sym (sum-assoc z (z ⊕ added n F z) step)
+    ∙ ap₂ (λ s t. s ⊕ select 0 t v) (self-left 𝕎 z (added n F z)) (pairing-comm n (times z F) v ∙ sym image ∙ pairing-comm n v (z ⊕ added n F z))
   where
+    high : ℕ
+    high = z / 2 ^ (n + n) * 2 ^ (n + n)
+
+    -- what the turn adds
+    step : ℕ
+    step = select 0 (pairing n (times z F) v) v
+
+    turned : times z (followed n F v) ≡ times z F ⊕ step
+    turned = followed-times n F v z ∙ turn-is-transvection n v (times z F) ∙ turn-is 𝕎 (𝕡 n) v (times z F)
+
     image : pairing n v (z ⊕ added n F z) ≡ pairing n v (times z F)
-    image =
-        ap (pairing n v) (image-parts n F z) ∙ pairing-sum n v (z / 2 ^ (n + n) * 2 ^ (n + n)) (times z F)
-        ∙ ap (λ t. t ⊻ pairing n v (times z F)) (pair-over n v (z / 2 ^ (n + n)))
+    image = ap (pairing n v) (image-parts n F z) ∙ pairing-sum n v high (times z F) ∙ ap (λ t. t ⊻ pairing n v (times z F)) (pair-over n v (z / 2 ^ (n + n)))
 
 -- a record of at most k turns that takes F to the identity
 abbrev pub Undone : ℕ → List ℕ → ℕ → List ℕ → Type 0

@@ -8,11 +8,12 @@ use native.Mathlib.Nat.{not-suc-le-zero, le-of-suc-le-suc, eq-or-lt-of-le}
 use native.Mathlib.Omega.{arith}
 use lib.ListN.{length, getD, length-reverse, List·getD-append}
 use lib.Seq.{getD-take, getD-at, length-take-le}
-use Rattle.binar.specs.Rows.{val, blank}
+use Rattle.binar.specs.Rows.{val}
+use Rattle.binar.specs.inner.Blank.{blank}
 use Rattle.blocks.specs.Blocks.{vals}
 use Rattle.blocks.proofs.Values.{vals-get, vals-length}
 use Rattle.transvection.specs.declared.Record.{Record}
-use Rattle.transvection.specs.Answers.{turns}
+use Rattle.transvection.specs.inner.Kept.{recordRoom, turns}
 
 -- the turn after the first i
 pub reverse-at : (l : List ℕ) (i : ℕ) → i < length l → getD (reverse l) i 0 ≡ getD l (length l - 1 - i) 0
@@ -28,7 +29,7 @@ reverse-at (x ∷ l) i h =
     List·getD-append (reverse l) (x ∷ []) 0 i (omega (arith, length-reverse l)) ∙ reverse-at l i k ∙ sym (ap (λ (k : ℕ). getD (x ∷ l) k 0) z))
     (eq-or-lt-of-le (le-of-suc-le-suc h))
 
-module _ (r : Record) (long : length (r .rows) ≡ 130) (fits : r .count ≤ 130) where
+module _ (r : Record) (long : length (r .rows) ≡ recordRoom) (fits : r .count ≤ recordRoom) where
   pub turns-length : length (turns r) ≡ r .count
   unfolding turns
   turns-length = length-take-le (r .count) (vals (r .rows)) (omega (arith, vals-length (r .rows)))

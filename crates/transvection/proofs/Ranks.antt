@@ -6,7 +6,7 @@ use mathlib.Core.List.{List, [], _∷_, map}
 use Prim.Native.Nat.{suc}
 use lib.ListN.{length}
 use Rattle.binar.specs.Bits.{_⊻_}
-use Rattle.linear.specs.Space.{Space, scale}
+use Rattle.linear.specs.VectorSpace.{VectorSpace, scale}
 use Rattle.linear.specs.Span.{InSpan}
 use Rattle.linear.specs.Maps.{Additive, Pairing}
 use Rattle.linear.proofs.Sums.{add-zero, left-comm, self-left, scale-o}
@@ -16,11 +16,11 @@ use Rattle.linear.proofs.Maps.{map-at, map-o, span-map, span-unmap, pairing-lef
 use Rattle.symplectic.proofs.Wall.{Residue, same-form}
 
 -- the images of the members span all the images
-abbrev pub Full : (S : Space) → (S .Car → S .Car) → List (S .Car) → Type 0
+abbrev pub Full : (S : VectorSpace) → (S .Car → S .Car) → List (S .Car) → Type 0
 Full S f zs = (z : S .Car) → InSpan S (map f zs) (f z)
 
-module _ (S : Space) where
-  open Space S using (Car, add as _⊕_, o, add-assoc, add-comm, add-self)
+module _ (S : VectorSpace) where
+  open VectorSpace S using (Car, add as _⊕_, o, add-assoc, add-comm, add-self)
 
   infixl 60 _⊕_
   -- ---- x in the place of a member

@@ -36,7 +36,10 @@ pub record-next : (n k : ℕ) (F vs all : List ℕ) (v : ℕ) → vs ++ recorded
     → (vs ++ (v ∷ [])) ++ recorded n k (followed n F v) ≡ all
 record-next n k F vs all v h e = append-snoc vs v (recorded n k (followed n F v)) ∙ ap (λ l. vs ++ l) (sym (recorded-more n k F v e)) ∙ h
 
--- as a loop counts: i turns taken of m
+-- as a loop counts: none taken of m, then i
+pub record-start : (n m : ℕ) (F : List ℕ) → recorded n (m - 0) F ≡ recorded n m F
+record-start n m F = ap (λ k. recorded n k F) (omega arith)
+
 pub record-step : (n m i : ℕ) (F vs all : List ℕ) (v : ℕ) → i < m → vs ++ recorded n (m - i) F ≡ all → nextTransvection n F ≡ some v
     → (vs ++ (v ∷ [])) ++ recorded n (m - (i + 1)) (followed n F v) ≡ all
 record-step n m i F vs all v l h e =

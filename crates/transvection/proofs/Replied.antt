@@ -6,15 +6,15 @@ use Prim.Native.Nat.{ℕ, suc, _*_, _+_, _≤_}
 use native.Mathlib.Omega.{arith}
 use lib.ListN.{length}
 use Rattle.blocks.specs.Words.{rowsOfWords, laid}
-use Rattle.symplectic.specs.declared.Told.{Told}
-use Rattle.symplectic.specs.Replies.{Reply, toldOf, refused, listed, actionQuestions, listQuestions, Replays}
-use Rattle.symplectic.proofs.Questions.{passed-count, passed-rows, passed-symplectic, list-known}
+use Rattle.symplectic.specs.declared.Figures.{Figures}
+use Rattle.symplectic.specs.Replies.{Reply, refused, listed, actionQuestions, listQuestions, Replays}
+use Rattle.symplectic.proofs.Questions.{passed-size, passed-count, passed-rows, passed-symplectic, list-known}
 use Rattle.symplectic.proofs.Answered.{Meets, Holds, holds-unless, meets-refused, meets-answer, refused-replays, listed-replays}
 use Rattle.transvection.specs.declared.Listing.the-variants.{Listed}
 use Rattle.transvection.specs.Greedy.{greedyList, greedyReply}
-use Rattle.transvection.specs.Answers.{told}
+use Rattle.transvection.specs.Answers.{figuresOf}
 use Rattle.transvection.proofs.Records.{Action}
-use Rattle.transvection.proofs.Ends.{greedy-product, greedy-length}
+use Rattle.transvection.proofs.Ends.{greedy-product, greedy-length, greedy-lt}
 
 -- an action that passed its questions
 pub passed-action : (n : ℕ) (rows : List ℕ) → actionQuestions n rows ≡ 0 → Action n rows
@@ -22,39 +22,40 @@ passed-action n rows e = (passed-count n rows e, passed-rows n rows e, passed-sy
 
 module _ (n : ℕ) (rows out : List ℕ) where
   abbrev asked : ℕ
-  asked = listQuestions n (rowsOfWords rows) (4 * n + 2) (length out)
+  asked = listQuestions n (rowsOfWords n rows) (4 * n + 2) (length out)
 
-  abbrev pub Promised : List ℕ → Told → Type 0
+  abbrev pub Promised : List ℕ → Figures → Type 0
   Promised left t = Replays n rows left t × (t .count ≤ 4 * n)
 
   abbrev answer : Reply
-  answer = listed (greedyList n (rowsOfWords rows)) 0 out
+  answer = listed n (greedyList n (rowsOfWords n rows)) 0 out
 
   -- an answer's list has the product of the action, and at most four turns for each qubit
-  greedy-answer : listQuestions n (rowsOfWords rows) (4 * n + 2) (length out) ≡ 0 → Holds Promised answer
-  unfolding listed toldOf
+  greedy-answer : listQuestions n (rowsOfWords n rows) (4 * n + 2) (length out) ≡ 0 → Holds Promised answer
   greedy-answer e =
-      let known = list-known n (rowsOfWords rows) (4 * n + 2) (length out) e in
-      let a = passed-action n (rowsOfWords rows) (known .0) in
-      let short : length (greedyList n (rowsOfWords rows)) ≤ 4 * n = greedy-length n (rowsOfWords rows) a in
-      (listed-replays n rows (greedyList n (rowsOfWords rows)) 0 out (greedy-product n (rowsOfWords rows) a) (omega (arith, known .1)), short)
+      let known = list-known n (rowsOfWords n rows) (4 * n + 2) (length out) e in
+      let a = passed-action n (rowsOfWords n rows) (known .0) in
+      let short : length (greedyList n (rowsOfWords n rows)) ≤ 4 * n = greedy-length n (rowsOfWords n rows) a in (
+        listed-replays n rows (passed-size n (rowsOfWords n rows) (known .0)) (greedyList n (rowsOfWords n rows)) (greedy-lt n (rowsOfWords n rows) a) 0 out
+            (greedy-product n (rowsOfWords n rows) a) (omega (arith, known .1)),
+        short,
+      )
 
   greedy-refusal : (k : ℕ) → Holds Promised (refused (suc k) 0 out)
-  unfolding refused toldOf
   greedy-refusal k = (refused-replays n rows k 0 out, omega arith)
 
   pub greedy-replays : Holds Promised (greedyReply n rows out)
   unfolding greedyReply
   greedy-replays = holds-unless Promised asked out answer greedy-refusal greedy-answer
 
-  pub greedy-refused : (k : ℕ) (t : Told) → listQuestions n (rowsOfWords rows) (4 * n + 2) (length out) ≡ suc k → t ≡ toldOf (refused (suc k) 0 out)
+  pub greedy-refused : (k : ℕ) (t : Figures) → listQuestions n (rowsOfWords n rows) (4 * n + 2) (length out) ≡ suc k → t ≡ refused (suc k) 0 out .figures
       → Meets Promised (greedyReply n rows out) out t
   unfolding greedyReply
   greedy-refused k t = meets-refused Promised asked out answer greedy-replays t k
 
   -- an answer lays the whole list into the words
-  pub greedy-listed : (count : ℕ) (left : List ℕ) → listQuestions n (rowsOfWords rows) (4 * n + 2) (length out) ≡ 0
-      → count ≡ length (greedyList n (rowsOfWords rows)) → left ≡ laid (greedyList n (rowsOfWords rows)) out
-      → Meets Promised (greedyReply n rows out) left (told (Listed count))
-  unfolding greedyReply listed toldOf told
-  greedy-listed count left e c l = meets-answer Promised asked out answer greedy-replays (told (Listed count)) e left (ap (λ (k : ℕ). told (Listed k)) c) l
+  pub greedy-listed : (count : ℕ) (left : List ℕ) → listQuestions n (rowsOfWords n rows) (4 * n + 2) (length out) ≡ 0
+      → count ≡ length (greedyList n (rowsOfWords n rows)) → left ≡ laid n (greedyList n (rowsOfWords n rows)) out
+      → Meets Promised (greedyReply n rows out) left (figuresOf (Listed count))
+  unfolding greedyReply
+  greedy-listed count left e c l = meets-answer Promised asked out answer greedy-replays (figuresOf (Listed count)) e left (ap (λ (k : ℕ). figuresOf (Listed k)) c) l

@@ -7,32 +7,25 @@ use mathlib.Core.Option.{Option, none, some}
 use Prim.Native.Nat.{ℕ, _+_, _≤_, _<_}
 use native.Mathlib.Omega.{arith}
 use lib.ListN.{length, getD, drop}
+use Rattle.binar.specs.declared.Row.{Row}
 use Rattle.binar.specs.Bits.{_⊕_}
-use Rattle.binar.specs.Rows.{val}
 use Rattle.symplectic.specs.Turns.{identityPlus}
-use Rattle.symplectic.specs.Picks.{when, orElse, mapSome, firstOne, unevenWith, firstUneven, pick, addBoth}
-use Rattle.symplectic.proofs.FirstPicks.{firstOne-skip, firstOne-here, firstOne-end, unevenWith-skip, unevenWith-here, unevenWith-end, firstUneven-open, firstUneven-end}
-use Rattle.transvection.specs.declared.Next.{Next}
+use Rattle.symplectic.specs.Picks.{orElse, mapSome, firstOne, unevenWith, firstUneven, pick, addBoth}
+use Rattle.symplectic.proofs.FirstPicks.{firstOne-skip, firstOne-here, firstOne-end, unevenWith-skip, unevenWith-here, unevenWith-end, firstUneven-open, firstUneven-end, pick-of-one, pick-of-uneven}
+use Rattle.transvection.specs.declared.Found.{Found}
+use Rattle.transvection.specs.declared.Found.the-variants.{Vector, Nothing}
 use Rattle.transvection.specs.Greedy.{besideBasis, rowPairing, firstNonzero, nextTransvection}
-use Rattle.transvection.specs.Answers.{chosen, oneFrom, withFrom, pairFrom}
+use Rattle.transvection.specs.inner.Searches.{chosen, oneFrom, withFrom, pairFrom}
 use Rattle.transvection.proofs.Choices.{rowAt, meets, differs, in-pairs, own, both, besideBasis-length, besideBasis-at, identityPlus-length, identityPlus-at, firstNonzero-skip, firstNonzero-here, firstNonzero-end}
 
 -- ---- what was found
 
-pub chosen-not : (r : Next) → r .found ≡ false → chosen r ≡ none
-unfolding chosen
-chosen-not r e = ap (λ b. when b (val (r .vector))) e
-
-pub chosen-some : (r : Next) → r .found ≡ true → chosen r ≡ some (val (r .vector))
-unfolding chosen
-chosen-some r e = ap (λ b. when b (val (r .vector))) e
-
 -- the second of two choices, and the first
-pub else-not : (r : Next) (p q : Option ℕ) → r .found ≡ false → chosen r ≡ p → orElse p q ≡ q
-else-not r p q e h = ap (λ w. orElse w q) (sym h ∙ chosen-not r e)
+pub else-nothing : (r : Found) (p q : Option ℕ) → r ≡ Nothing → chosen r ≡ p → orElse p q ≡ q
+else-nothing r p q e h = ap (λ w. orElse w q) (sym h ∙ ap chosen e)
 
-pub else-some : (r : Next) (p q : Option ℕ) → r .found ≡ true → chosen r ≡ p → orElse p q ≡ chosen r
-else-some r p q e h = ap (λ w. orElse w q) (sym h ∙ chosen-some r e) ∙ sym (chosen-some r e)
+pub else-vector : (r : Found) (row : Row) (p q : Option ℕ) → r ≡ Vector row → chosen r ≡ p → orElse p q ≡ chosen r
+else-vector r row p q e h = ap (λ w. orElse w q) (sym h ∙ ap chosen e) ∙ sym (ap chosen e)
 
 module _ (n : ℕ) (F : List ℕ) (size : length F ≡ n + n) where
   abbrev pairs : List (ℕ × ℕ)
@@ -108,10 +101,19 @@ module _ (n : ℕ) (F : List ℕ) (size : length F ≡ n + n) where
 -- ---- the vector taken
 
 pub next-searches : (n : ℕ) (F : List ℕ) → nextTransvection n F ≡ orElse (oneFrom n F 0) (orElse (pairFrom n F 0) (firstNonzero (identityPlus n F)))
-unfolding nextTransvection pick oneFrom pairFrom
-next-searches n F = both-else (firstOne addBoth (rowPairing n) (besideBasis n F)) (firstUneven addBoth (rowPairing n) (besideBasis n F))
+unfolding nextTransvection oneFrom pairFrom
+next-searches n F = go (firstOne addBoth (rowPairing n) (besideBasis n F)) refl
   where
-    both-else : (p q : Option (ℕ × ℕ))
-        → orElse (mapSome (λ a. a .1) (orElse p q)) (firstNonzero (identityPlus n F)) ≡ orElse (mapSome (λ a. a .1) p) (orElse (mapSome (λ a. a .1) q) (firstNonzero (identityPlus n F)))
-    both-else none q = refl
-    both-else (some a) q = refl
+    first : Option (ℕ × ℕ) → Option ℕ → Option ℕ
+    first p later = orElse (mapSome (λ a. a .1) p) later
+
+    last : Option ℕ
+    last = firstNonzero (identityPlus n F)
+
+    two : Option (ℕ × ℕ)
+    two = firstUneven addBoth (rowPairing n) (besideBasis n F)
+
+    go : (one : Option (ℕ × ℕ)) → firstOne addBoth (rowPairing n) (besideBasis n F) ≡ one
+        → first (pick addBoth (rowPairing n) (besideBasis n F)) last ≡ first (firstOne addBoth (rowPairing n) (besideBasis n F)) (first two last)
+    go none e = ap (λ p. first p last) (pick-of-uneven addBoth (rowPairing n) (besideBasis n F) e) ∙ ap (λ p. first p (first two last)) (sym e)
+    go (some a) e = ap (λ p. first p last) (pick-of-one addBoth (rowPairing n) (besideBasis n F) a e) ∙ ap (λ p. first p (first two last)) (sym e)

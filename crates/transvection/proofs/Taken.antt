@@ -1,22 +1,21 @@
 -- What the greedy list takes next: a vector that the action adds; none just where the action is the identity.
 -- Assumes nothing.
-use mathlib.Core.Path.{_≡_, refl, sym, ap, ap₂, _∙_, subst}
+use mathlib.Core.Path.{_≡_, refl, sym, ap, _∙_, subst}
 use mathlib.Core.Bool.{Bool, true, false, not, true≢false}
 use mathlib.Core.List.{List, [], _∷_, map, map-id, zip}
 use mathlib.Core.Option.{Option, none, some}
 use mathlib.Core.Logic.{_⊎_, inl, inr, ⊎-elim}
-use Prim.Native.Nat.{ℕ, _+_, _%_, _^_, _<_}
-use native.Mathlib.Nat.{mod-lt, mod-mod}
+use Prim.Native.Nat.{ℕ, _+_, _*_, _/_, _%_, _^_, _<_}
+use native.Mathlib.Nat.{mod-lt}
 use lib.Dec.{eqb}
 use lib.Pow.{pow-pos}
 use lib.ListN.{length}
 use borrow.Author.Tests.{eqb-true, eqb-false}
 use Rattle.binar.specs.Bits.{_⊕_}
-use Rattle.binar.proofs.Sums.{sum-self}
+use Rattle.binar.proofs.Sums.{sum-self, zero-sum, by-parts}
 use Rattle.blocks.specs.Matrices.{times, units, All}
 use Rattle.blocks.proofs.All.{All·of-map}
 use Rattle.linear.proofs.Exchange.{span-head, span-skip}
-use Rattle.blocks.proofs.Products.{times-low}
 use Rattle.blocks.proofs.Units.{units-length}
 use Rattle.linear.specs.Span.{InSpan}
 use Rattle.linear.specs.Maps.{Additive, Form}
@@ -29,7 +28,7 @@ use Rattle.symplectic.specs.Picks.{orIf, orElse, mapSome, pick, addBoth}
 use Rattle.symplectic.proofs.Lists.{zip-beside}
 use Rattle.symplectic.proofs.Pairings.{𝕡, pairing-low, pairing-sum, pairing-comm, pairing-zero}
 use Rattle.symplectic.proofs.Products.{times-of-units}
-use Rattle.symplectic.proofs.Layers.{added, added-is, added-sum, added-lt, identityPlus-is, rows-are}
+use Rattle.symplectic.proofs.Layers.{added, added-is, added-sum, added-lt, added-over, identityPlus-is, rows-are}
 use Rattle.transvection.specs.Greedy.{besideBasis, rowPairing, firstNonzero, nextTransvection}
 use Rattle.symplectic.proofs.Picked.{Picked, Even, picked}
 use Rattle.transvection.proofs.Ranks.{Full, Flat}
@@ -75,8 +74,9 @@ nonzero-right (v ∷ vs) = go (eqb v 0) refl (nonzero-right vs)
 module _ (n : ℕ) (F : List ℕ) (size : length F ≡ n + n) where
   -- columns from 2n on do not matter
   pub added-low : (z : ℕ) → added n F (z % 2 ^ (n + n)) ≡ added n F z
-  unfolding added
-  added-low z = ap₂ _⊕_ (mod-mod z (2 ^ (n + n))) (ap (λ m. times (z % 2 ^ m) F) (sym size) ∙ times-low F z)
+  added-low z =
+      sym (ap (added n F) (by-parts (n + n) z) ∙ added-sum n F (z / 2 ^ (n + n) * 2 ^ (n + n)) (z % 2 ^ (n + n))
+      ∙ ap (λ t. t ⊕ added n F (z % 2 ^ (n + n))) (added-over n F size (z / 2 ^ (n + n))) ∙ zero-sum (added n F (z % 2 ^ (n + n))))
 
   low-span : (z : ℕ) → InSpan 𝕎 (units (n + n)) (z % 2 ^ (n + n))
   low-span z = units-span (n + n) (z % 2 ^ (n + n)) (mod-lt z (pow-pos (n + n)))

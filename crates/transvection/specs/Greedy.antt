@@ -46,4 +46,4 @@ greedyList n F = reverse (recorded n (4 * n + 2) F)
 -- questions 1 to 5, with 4n + 2 output words
 unfoldable pub greedyReply : ℕ → List ℕ → List ℕ → Reply
 greedyReply n words out =
-    let F = rowsOfWords words in unlessRefused (listQuestions n F (4 * n + 2) (length out)) out (listed (greedyList n F) 0 out)
+    let F = rowsOfWords n words in unlessRefused (listQuestions n F (4 * n + 2) (length out)) out (listed n (greedyList n F) 0 out)

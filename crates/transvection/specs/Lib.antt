@@ -1,2 +1,3 @@
 pub mod Greedy
 pub mod Answers
+pub mod inner

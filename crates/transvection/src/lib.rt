@@ -2,32 +2,36 @@
 // In the source: transvection.rs, `clifford_to_transvections`, `symplectic_residue_matrix`, `next_transvection`.
 use binar::Row;
 use symplectic::Action;
+use symplectic::Figures;
 use symplectic::Question;
-use symplectic::Told;
 ghost use mathlib.Core.Path.{_≡_};
-ghost use mathlib.Core.Option.{none};
 ghost use mathlib.Core.List.{reverse};
 ghost use Prim.Native.Nat.{_+_, _*_, _^_, _≤_, _<_};
 ghost use lib.ListN.{length};
 ghost use Rattle.binar.specs.Bits.{_⊕_};
-ghost use Rattle.binar.specs.Rows.{val};
+ghost use Rattle.binar.specs.Rows.{width, val};
 ghost use Rattle.blocks.specs.Words.{laid};
 ghost use Rattle.symplectic.specs.Turns.{pairing, identityPlus};
-ghost use Rattle.symplectic.specs.Actions.{qubits, matrix};
-ghost use Rattle.symplectic.specs.Replies.{toldOf, Replays};
+ghost use Rattle.symplectic.specs.Actions.{maxQubits, qubits, matrix};
+ghost use Rattle.symplectic.specs.Replies.{Replays};
 ghost use Rattle.transvection.specs.Greedy.{firstNonzero, nextTransvection, recorded, greedyReply};
-ghost use Rattle.transvection.specs.Answers.{chosen, turns, oneFrom, withFrom, pairFrom, told};
+ghost use Rattle.transvection.specs.Answers.{figuresOf};
+ghost use Rattle.transvection.specs.inner.Searches.{chosen, oneFrom, withFrom, pairFrom};
+ghost use Rattle.transvection.specs.inner.Kept.{recordRoom, turns};
 
-// What a search finds, if anything.
-pub struct Next {
-    pub found: bool,
-    pub vector: Row,
+// How many turns a record has room for: 4n + 2 at the most qubits.
+const RECORD_ROOM: usize = 130;
+
+// What a search of the rows finds.
+enum Found {
+    Vector { row: Row },
+    Nothing,
 }
 
 // The turns so far, in the order in which they were taken.
-pub struct Record {
-    pub rows: [Row; 130],
-    pub count: usize,
+struct Record {
+    rows: [Row; RECORD_ROOM],
+    count: usize,
 }
 
 // What the call answers: how many vectors it listed, or the first question that is answered no.
@@ -40,18 +44,9 @@ pub enum Listing {
     OutputTooShort,
 }
 
-fn nothing_found() -> Next
-    ensures { λ r. ⌜ chosen r ≡ none ⌝ }
-{
-    Next {
-        found: false,
-        vector: binar::zero(),
-    }
-}
-
 // Row i of I + F, from row i of F.
 fn row_at(u: Row, i: usize) -> Row
-    requires { ⌜ i < 64 ⌝ }
+    requires { ⌜ i < width ⌝ }
     ensures { λ r. ⌜ val r ≡ val u ⊕ 2 ^ i ⌝ }
 {
     binar::sum(u, binar::unit(i))
@@ -59,7 +54,7 @@ fn row_at(u: Row, i: usize) -> Row
 
 // A row's pairing with basis vector j: its bit in the other half.
 fn meets(n: usize, row: Row, j: usize) -> bool
-    requires { ⌜ (n ≤ 32) × (j < n + n) ⌝ }
+    requires { ⌜ (n ≤ maxQubits) × (j < n + n) ⌝ }
     ensures { λ r. ⌜ r ≡ pairing n (val row) (2 ^ j) ⌝ }
 {
     if j < n {
@@ -70,86 +65,88 @@ fn meets(n: usize, row: Row, j: usize) -> bool
 }
 
 // The lowest row that pairs to 1 with its own basis vector.
-fn one_row(a: Action) -> Next
+fn one_row(a: Action) -> Found
     ensures { λ r. ⌜ chosen r ≡ oneFrom (qubits a) (matrix a) 0 ⌝ }
 {
-    let n = symplectic::width(a);
+    let n = symplectic::qubits_of(a);
     let count = n + n;
     for i in 0..count {
         let u = row_at(a.rows[i], i);
         if meets(n, u, i) {
-            return Next {
-                found: true,
-                vector: u,
-            };
+            return Found::Vector { row: u };
         }
     }
-    nothing_found()
+    Found::Nothing
 }
 
-// Row i and the first row j behind it where row i's pairing with basis vector j differs from row j's with basis vector i.
-fn pair_with(a: Action, i: usize) -> Next
+// The sum of row i and the first row j behind it where row i's pairing with basis vector j differs from row j's with basis vector i.
+fn pair_with(a: Action, i: usize) -> Found
     requires { ⌜ i < qubits a + qubits a ⌝ }
     ensures { λ r. ⌜ chosen r ≡ withFrom (qubits a) (matrix a) i (i + 1) ⌝ }
 {
-    let n = symplectic::width(a);
+    let n = symplectic::qubits_of(a);
     let count = n + n;
     let u = row_at(a.rows[i], i);
     for j in i + 1..count {
         let v = row_at(a.rows[j], j);
         let w = binar::sum(u, v);
         if meets(n, u, j) != meets(n, v, i) {
-            return Next {
-                found: true,
-                vector: w,
-            };
+            return Found::Vector { row: w };
         }
     }
-    nothing_found()
+    Found::Nothing
 }
 
-// The first such pair.
-fn pair_of_rows(a: Action) -> Next
+// The sum of the first such pair.
+fn pair_of_rows(a: Action) -> Found
     ensures { λ r. ⌜ chosen r ≡ pairFrom (qubits a) (matrix a) 0 ⌝ }
 {
-    let n = symplectic::width(a);
+    let n = symplectic::qubits_of(a);
     let count = n + n;
     for i in 0..count {
-        let next = pair_with(a, i);
-        if next.found {
-            return next;
+        let pair = pair_with(a, i);
+        match pair {
+            Found::Vector { row: _ } => {
+                return pair;
+            }
+            Found::Nothing => {}
         }
     }
-    nothing_found()
+    Found::Nothing
 }
 
-fn nonzero_row(a: Action) -> Next
+// The lowest nonzero row.
+fn nonzero_row(a: Action) -> Found
     ensures { λ r. ⌜ chosen r ≡ firstNonzero (identityPlus (qubits a) (matrix a)) ⌝ }
 {
-    let n = symplectic::width(a);
+    let n = symplectic::qubits_of(a);
     let count = n + n;
     for i in 0..count {
         let u = row_at(a.rows[i], i);
         if !binar::is_zero(u) {
-            return Next {
-                found: true,
-                vector: u,
-            };
+            return Found::Vector { row: u };
         }
     }
-    nothing_found()
+    Found::Nothing
 }
 
-fn next_transvection(a: Action) -> Next
+// The vector that the greedy rule takes next.
+fn next_transvection(a: Action) -> Found
     ensures { λ r. ⌜ chosen r ≡ nextTransvection (qubits a) (matrix a) ⌝ }
 {
     let one = one_row(a);
-    if one.found {
-        return one;
+    match one {
+        Found::Vector { row: _ } => {
+            return one;
+        }
+        Found::Nothing => {}
     }
-    let two = pair_of_rows(a);
-    if two.found {
-        return two;
+    let pair = pair_of_rows(a);
+    match pair {
+        Found::Vector { row: _ } => {
+            return pair;
+        }
+        Found::Nothing => {}
     }
     nonzero_row(a)
 }
@@ -161,27 +158,30 @@ fn record_turns(a: Action) -> Record
     let z = binar::zero();
     let mut b = a;
     let mut kept = Record {
-        rows: [z; 130],
+        rows: [z; RECORD_ROOM],
         count: 0,
     };
-    let limit = symplectic::width(a) * 4 + 2;
+    let limit = symplectic::qubits_of(a) * 4 + 2;
     for i in 0..limit {
         let next = next_transvection(b);
-        if !next.found {
-            return kept;
+        match next {
+            Found::Vector { row } => {
+                b = symplectic::followed(b, row);
+                kept.rows[i] = row;
+                kept.count = i + 1;
+            }
+            Found::Nothing => {
+                return kept;
+            }
         }
-        let v = next.vector;
-        b = symplectic::followed(b, v);
-        kept.rows[i] = v;
-        kept.count = i + 1;
     }
     kept
 }
 
-// The record laid into lent words, its last turn first.
-fn store_reversed(kept: Record, out: &mut [u64])
-    requires { ⌜ (kept .count ≤ 130) × (kept .count ≤ length (now out)) ⌝ }
-    ensures { λ _. ⌜ now (out .exit) ≡ laid (reverse (turns kept)) (now (out .entry)) ⌝ }
+// The record, of turns of n qubits, laid into lent words, its last turn first.
+fn store_reversed(n: u64, kept: Record, out: &mut [u64])
+    requires { ⌜ (kept .count ≤ recordRoom) × (kept .count ≤ length (now out)) ⌝ }
+    ensures { λ _. ⌜ now (out .exit) ≡ laid n (reverse (turns kept)) (now (out .entry)) ⌝ }
 {
     let count = kept.count;
     for k in 0..count {
@@ -190,26 +190,50 @@ fn store_reversed(kept: Record, out: &mut [u64])
     }
 }
 
-// The number and the count that an answer stands for.
-pub fn tell(r: Listing) -> Told
-    ensures { λ t. ⌜ t ≡ told r ⌝ }
+// The figures of an answer.
+pub fn figures_of(r: Listing) -> Figures
+    ensures { λ t. ⌜ t ≡ figuresOf r ⌝ }
 {
     match r {
-        Listing::Listed { count } => symplectic::telling(0, count, 0),
-        Listing::TooManyQubits => symplectic::telling(1, 0, 0),
-        Listing::WrongRowCount => symplectic::telling(2, 0, 0),
-        Listing::RowTooWide => symplectic::telling(3, 0, 0),
-        Listing::NotSymplectic => symplectic::telling(4, 0, 0),
-        Listing::OutputTooShort => symplectic::telling(5, 0, 0),
+        Listing::Listed { count } => Figures {
+            number: 0,
+            count: count,
+            looks: 0,
+        },
+        Listing::TooManyQubits => Figures {
+            number: 1,
+            count: 0,
+            looks: 0,
+        },
+        Listing::WrongRowCount => Figures {
+            number: 2,
+            count: 0,
+            looks: 0,
+        },
+        Listing::RowTooWide => Figures {
+            number: 3,
+            count: 0,
+            looks: 0,
+        },
+        Listing::NotSymplectic => Figures {
+            number: 4,
+            count: 0,
+            looks: 0,
+        },
+        Listing::OutputTooShort => Figures {
+            number: 5,
+            count: 0,
+            looks: 0,
+        },
     }
 }
 
 // A list of turns whose product is the lent action, at most four for each qubit.
 pub fn clifford_to_transvections(n: u64, rows: &[u64], out: &mut [u64]) -> Listing
-    ensures answered { λ r. ⌜ told r ≡ toldOf (greedyReply n (now (rows .entry)) (now (out .entry))) ⌝ }
+    ensures answered { λ r. ⌜ figuresOf r ≡ greedyReply n (now (rows .entry)) (now (out .entry)) .figures ⌝ }
     ensures left { λ r. ⌜ now (out .exit) ≡ greedyReply n (now (rows .entry)) (now (out .entry)) .words ⌝ }
-    ensures replays { λ r. ⌜ Replays n (now (rows .entry)) (now (out .exit)) (told r) ⌝ }
-    ensures few { λ r. ⌜ told r .count ≤ 4 * n ⌝ }
+    ensures replays { λ r. ⌜ Replays n (now (rows .entry)) (now (out .exit)) (figuresOf r) ⌝ }
+    ensures few { λ r. ⌜ figuresOf r .count ≤ 4 * n ⌝ }
 {
     let question = symplectic::action_questions(n, rows);
     match question {
@@ -231,8 +255,8 @@ pub fn clifford_to_transvections(n: u64, rows: &[u64], out: &mut [u64]) -> Listi
     if out.len() < wanted as usize {
         return Listing::OutputTooShort;
     }
-    let kept = record_turns(symplectic::load(n, rows));
-    store_reversed(kept, out);
+    let kept = record_turns(symplectic::from_words(n, rows));
+    store_reversed(n, kept, out);
     Listing::Listed {
         count: kept.count as u64,
     }

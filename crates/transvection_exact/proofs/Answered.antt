@@ -5,8 +5,8 @@ use mathlib.Core.List.{List}
 use Prim.Native.Nat.{ℕ, suc, _+_}
 use lib.ListN.{length}
 use Rattle.blocks.specs.Words.{rowsOfWords}
-use Rattle.symplectic.specs.declared.Told.{Told}
-use Rattle.symplectic.specs.Replies.{Reply, toldOf, refused, actionQuestions, listQuestions, Replays}
+use Rattle.symplectic.specs.declared.Figures.{Figures}
+use Rattle.symplectic.specs.Replies.{Reply, refused, actionQuestions, listQuestions, Replays}
 use Rattle.symplectic.proofs.Questions.{list-refused}
 use Rattle.symplectic.proofs.Answered.{Meets, Holds, meets-refused, meets-answer}
 use Rattle.triangular.specs.Search.{budgeted}
@@ -16,16 +16,15 @@ use Rattle.transvection_exact.proofs.Replies.{answered-product, answere
 
 module _ (n : ℕ) (rows : List ℕ) (budget : ℕ) (out : List ℕ) where
   abbrev asked : ℕ
-  asked = listQuestions n (rowsOfWords rows) (n + n + 1) (length out)
+  asked = listQuestions n (rowsOfWords n rows) (n + n + 1) (length out)
 
   abbrev answer : Reply
-  answer = searchedReply n (rowsOfWords rows) (budgeted budget (coreSearch n (rowsOfWords rows))) out
+  answer = searchedReply n (rowsOfWords n rows) (budgeted budget (coreSearch n (rowsOfWords n rows))) out
 
-  abbrev pub Promised : List ℕ → Told → Type 0
+  abbrev pub Promised : List ℕ → Figures → Type 0
   Promised left t = Replays n rows left t × (Shortest n rows t × Exact n rows budget out t)
 
   pub minimal-shortest : Holds Promised (minimalReply n rows budget out)
-  unfolding toldOf Replays Shortest Exact
   minimal-shortest = (
     answered-product n rows budget out,
     (
@@ -38,20 +37,20 @@ module _ (n : ℕ) (rows : List ℕ) (budget : ℕ) (out : List ℕ) where
   )
 
   -- one of the questions 1 to 5
-  pub minimal-refused : (k : ℕ) (t : Told) → listQuestions n (rowsOfWords rows) (n + n + 1) (length out) ≡ suc k → t ≡ toldOf (refused (suc k) 0 out)
+  pub minimal-refused : (k : ℕ) (t : Figures) → listQuestions n (rowsOfWords n rows) (n + n + 1) (length out) ≡ suc k → t ≡ refused (suc k) 0 out .figures
       → Meets Promised (minimalReply n rows budget out) out t
   unfolding minimalReply
   minimal-refused k t = meets-refused Promised asked out answer minimal-shortest t k
 
   -- one of those of the action
-  pub minimal-early : (k : ℕ) (t : Told) → actionQuestions n (rowsOfWords rows) ≡ suc k → t ≡ toldOf (refused (suc k) 0 out)
+  pub minimal-early : (k : ℕ) (t : Figures) → actionQuestions n (rowsOfWords n rows) ≡ suc k → t ≡ refused (suc k) 0 out .figures
       → Meets Promised (minimalReply n rows budget out) out t
-  minimal-early k t e = minimal-refused k t (list-refused n (rowsOfWords rows) (n + n + 1) (length out) k e)
+  minimal-early k t e = minimal-refused k t (list-refused n (rowsOfWords n rows) (n + n + 1) (length out) k e)
 
   -- those are passed: what the search answers
-  pub minimal-searched : (left : List ℕ) (t : Told) → listQuestions n (rowsOfWords rows) (n + n + 1) (length out) ≡ 0
-      → t ≡ toldOf (searchedReply n (rowsOfWords rows) (budgeted budget (coreSearch n (rowsOfWords rows))) out)
-      → left ≡ searchedReply n (rowsOfWords rows) (budgeted budget (coreSearch n (rowsOfWords rows))) out .words
+  pub minimal-searched : (left : List ℕ) (t : Figures) → listQuestions n (rowsOfWords n rows) (n + n + 1) (length out) ≡ 0
+      → t ≡ searchedReply n (rowsOfWords n rows) (budgeted budget (coreSearch n (rowsOfWords n rows))) out .figures
+      → left ≡ searchedReply n (rowsOfWords n rows) (budgeted budget (coreSearch n (rowsOfWords n rows))) out .words
       → Meets Promised (minimalReply n rows budget out) left t
   unfolding minimalReply
   minimal-searched left t e = meets-answer Promised asked out answer minimal-shortest t e left

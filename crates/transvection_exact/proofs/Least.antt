@@ -19,7 +19,7 @@ use Rattle.reduction.proofs.Forms.{formOf}
 use Rattle.triangular.specs.Search.{Outcome, found, failed, search}
 use Rattle.triangular.proofs.Complete.{Right, search-right}
 use Rattle.bordered.proofs.Verified.{Verified, verified-room}
-use Rattle.transvection_exact.specs.Shortest.{NoneShorter}
+use Rattle.transvection_exact.specs.NoneShorter.{NoneShorter}
 use Rattle.transvection_exact.specs.Minimal.{coreSearch}
 use Rattle.transvection_exact.proofs.Lengths.{none-below-rank, good-of-list, list-of-good}
 
@@ -30,7 +30,7 @@ Least n F (found ps looks) =
 Least n F (failed looks) = NoneShorter n F (suc (length (basis n F)))
 
 -- a list to lay out
-pub record Shortest (n : ℕ) (F vs : List ℕ) : Type 0 where
+pub record ShortestList (n : ℕ) (F vs : List ℕ) : Type 0 where
   pub replays : product n vs ≡ F
   pub least : NoneShorter n F (length vs)
   pub fits : All (λ v. v < 2 ^ (n + n)) vs
@@ -55,7 +55,7 @@ module _ (n : ℕ) (F : List ℕ) (size : length F ≡ n + n) (bounded : All (λ
           ⊎-elim (λ l. let g = good-of-list n F size symp ws e l in absurd (h (g .list) (g .tri, g .within, g .size))) (λ l. l)
           (eq-or-lt-of-le (none-below-rank n F size symp ws fits e))
 
-  pub found-shortest : (ps : List ℕ) (looks : ℕ) → Least n F (found ps looks) → Shortest n F (map (λ p. times p (basis n F)) ps)
+  pub found-shortest : (ps : List ℕ) (looks : ℕ) → Least n F (found ps looks) → ShortestList n F (map (λ p. times p (basis n F)) ps)
   found-shortest ps looks h =
       let long = length-map ps (λ p. times p (basis n F)) ∙ h .1 in
       record {
@@ -65,6 +65,6 @@ module _ (n : ℕ) (F : List ℕ) (size : length F ≡ n + n) (bounded : All (λ
         room = omega (arith, basis-size n F size bounded);
       }
 
-  pub bordered-shortest : (vs : List ℕ) → NoneShorter n F (suc (length (basis n F))) → Verified n F vs → Shortest n F vs
+  pub bordered-shortest : (vs : List ℕ) → NoneShorter n F (suc (length (basis n F))) → Verified n F vs → ShortestList n F vs
   bordered-shortest vs h v =
       record { replays = v .replays; least = subst (NoneShorter n F) (sym (v .size)) h; fits = v .fits; room = verified-room n F vs v }

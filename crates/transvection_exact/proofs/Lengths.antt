@@ -11,7 +11,8 @@ use Rattle.blocks.proofs.Units.{units-length, times-units}
 use Rattle.linear.specs.Span.{InSpan, Indep}
 use Rattle.linear.specs.Triangular.{Tri, Good}
 use Rattle.linear.proofs.Instances.{𝕎}
-use Rattle.symplectic.specs.Turns.{pairing, swapHalves, product, symplectic}
+use Rattle.symplectic.specs.Turns.{pairing, product, symplectic}
+use Rattle.symplectic.specs.inner.Vectors.{swapHalves}
 use Rattle.symplectic.proofs.Pairings.{𝕡}
 use Rattle.symplectic.proofs.Transvections.{act}
 use Rattle.symplectic.proofs.Products.{run-is-act}
@@ -19,7 +20,7 @@ use Rattle.symplectic.proofs.Layers.{added, residueMap, adds-of-product, produc
 use Rattle.symplectic.proofs.Wall.{Residue, φ, core as wallForm, at-least, good-of-shortest, product-of-good}
 use Rattle.reduction.specs.Residue.{basis, transform, core, form}
 use Rattle.reduction.proofs.Core.{lift-sum, basis-indep, basis-is, core-is, full}
-use Rattle.transvection_exact.specs.Shortest.{NoneShorter}
+use Rattle.transvection_exact.specs.NoneShorter.{NoneShorter}
 
 -- a triangular list of r members of the space of dimension r
 abbrev pub GoodBasis : ℕ → List ℕ → Type 0

@@ -3,28 +3,30 @@
 use mathlib.Core.Path.{_≡_, sym, ap, _∙_}
 use mathlib.Core.Bool.{true, false}
 use mathlib.Core.List.{List}
-use mathlib.Core.Option.{Option}
+use mathlib.Core.Option.{Option, none, some}
 use Prim.Native.Nat.{ℕ, _+_, _≤_}
 use lib.ListN.{length}
 use Rattle.blocks.specs.declared.Block.{Block}
 use Rattle.blocks.specs.Blocks.{rowsOf}
 use Rattle.blocks.specs.Matrices.{units, matmul}
+use Rattle.blocks.proofs.Products.{matmul-is}
+use Rattle.symplectic.specs.Actions.{maxQubits}
 use Rattle.symplectic.specs.Replies.{Reply, refused, listed}
-use Rattle.symplectic.specs.Picks.{when}
 use Rattle.reduction.specs.Residue.{basis, core, form}
 use Rattle.reduction.proofs.Core.{core-length}
 use Rattle.triangular.specs.declared.Searched.{Searched}
 use Rattle.triangular.specs.declared.Ending.the-variants.{Found, Failed, Spent}
 use Rattle.triangular.specs.Search.{found, failed, search, Verdict, ended, spent, budgeted}
 use Rattle.triangular.specs.Readings.{coreOf, seen}
-use Rattle.triangular.proofs.Budgets.{says-found, says-failed, says-spent}
+use Rattle.triangular.proofs.Verdicts.{seen-found, seen-failed, seen-spent}
 use Rattle.bordered.specs.declared.Bordered.{Bordered}
 use Rattle.bordered.specs.Checks.{borderedList}
 use Rattle.bordered.specs.Readings.{listedOf}
-use Rattle.bordered.proofs.Listed.{core-fits}
+use Rattle.bordered.specs.declared.Candidate.the-variants.{Passed, Rejected}
+use Rattle.bordered.proofs.Listed.{core-fits, listed-passed, listed-rejected}
 use Rattle.transvection_exact.specs.Minimal.{coreSearch, borderedReply, searchedReply}
 
-module _ (n : ℕ) (F : List ℕ) (size : length F ≡ n + n) (small : n ≤ 32) (budget : ℕ) (out : List ℕ) where
+module _ (n : ℕ) (F : List ℕ) (size : length F ≡ n + n) (small : n ≤ maxQubits) (budget : ℕ) (out : List ℕ) where
   abbrev reply : Reply
   reply = searchedReply n F (budgeted budget (coreSearch n F)) out
 
@@ -41,28 +43,23 @@ module _ (n : ℕ) (F : List ℕ) (size : length F ≡ n + n) (small : n ≤ 32)
     by-verdict v e = ap (λ (w : Verdict). searchedReply n F w out) (sym verdict ∙ e)
 
     pub searched-spent : o .ending ≡ Spent → searchedReply n F (budgeted budget (coreSearch n F)) out ≡ refused 6 (o .looks) out
-    unfolding seen
-    searched-spent e = by-verdict (spent (o .looks)) (says-spent (o .ending) (o .looks) (rowsOf (o .list)) e)
+    searched-spent e = by-verdict (spent (o .looks)) (seen-spent o e)
 
     pub searched-found : (vs : List ℕ) → o .ending ≡ Found → vs ≡ matmul (rowsOf (o .list)) (basis n F)
-        → searchedReply n F (budgeted budget (coreSearch n F)) out ≡ listed vs (o .looks) out
-    unfolding seen matmul
+        → searchedReply n F (budgeted budget (coreSearch n F)) out ≡ listed n vs (o .looks) out
     searched-found vs e l =
-        by-verdict (ended (found (rowsOf (o .list)) (o .looks))) (says-found (o .ending) (o .looks) (rowsOf (o .list)) e)
-        ∙ ap (λ (m : List ℕ). listed m (o .looks) out) (sym l)
+        by-verdict (ended (found (rowsOf (o .list)) (o .looks))) (seen-found o e)
+        ∙ ap (λ (m : List ℕ). listed n m (o .looks) out) (sym (l ∙ matmul-is (rowsOf (o .list)) (basis n F)))
 
     -- the search fails: the bordered list, or none
     module _ (fails : o .ending ≡ Failed) (b : Bordered) (by : listedOf b ≡ borderedList n F) where
-      bordered-by : (p : Option (List ℕ)) → listedOf b ≡ p → reply ≡ borderedReply p (o .looks) out
-      unfolding seen
+      bordered-by : (p : Option (List ℕ)) → listedOf b ≡ p → reply ≡ borderedReply n p (o .looks) out
       bordered-by p e =
-          by-verdict (ended (failed (o .looks))) (says-failed (o .ending) (o .looks) (rowsOf (o .list)) fails)
-          ∙ ap (λ (q : Option (List ℕ)). borderedReply q (o .looks) out) (sym by ∙ e)
+          by-verdict (ended (failed (o .looks))) (seen-failed o fails)
+          ∙ ap (λ (q : Option (List ℕ)). borderedReply n q (o .looks) out) (sym by ∙ e)
 
-      pub searched-unbordered : b .passed ≡ false → searchedReply n F (budgeted budget (coreSearch n F)) out ≡ refused 7 (o .looks) out
-      unfolding listedOf
-      searched-unbordered e = bordered-by _ (ap (λ t. when t (rowsOf (b .list))) e)
+      pub searched-unbordered : b .candidate ≡ Rejected → searchedReply n F (budgeted budget (coreSearch n F)) out ≡ refused 7 (o .looks) out
+      searched-unbordered e = bordered-by none (listed-rejected b e)
 
-      pub searched-bordered : b .passed ≡ true → searchedReply n F (budgeted budget (coreSearch n F)) out ≡ listed (rowsOf (b .list)) (o .looks) out
-      unfolding listedOf
-      searched-bordered e = bordered-by _ (ap (λ t. when t (rowsOf (b .list))) e)
+      pub searched-bordered : b .candidate ≡ Passed → searchedReply n F (budgeted budget (coreSearch n F)) out ≡ listed n (rowsOf (b .list)) (o .looks) out
+      searched-bordered e = bordered-by (some (rowsOf (b .list))) (listed-passed b e)

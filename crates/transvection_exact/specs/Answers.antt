@@ -5,40 +5,40 @@ use mathlib.Core.List.{List}
 use Prim.Native.Nat.{ℕ, _+_, _<_}
 use lib.ListN.{length}
 use Rattle.blocks.specs.Words.{rowsOfWords}
-use Rattle.symplectic.specs.declared.Told.{Told}
+use Rattle.symplectic.specs.declared.Figures.{Figures}
 use Rattle.symplectic.specs.Replies.{listQuestions}
 use Rattle.triangular.specs.Search.{looksOf}
 use Rattle.transvection_exact.specs.declared.Minimal.{Minimal}
 use Rattle.transvection_exact.specs.declared.Minimal.the-variants.{Listed, TooManyQubits, WrongRowCount, RowTooWide, NotSymplectic, OutputTooShort, Spent, NotBordered}
-use Rattle.transvection_exact.specs.Shortest.{NoneShorter}
+use Rattle.transvection_exact.specs.NoneShorter.{NoneShorter}
 use Rattle.transvection_exact.specs.Minimal.{coreSearch}
 
--- the number of the question that was answered no, 0 for an answer; the count of the list; the looks of the search
-unfoldable pub told : Minimal → Told
-told (Listed count looks) = record { number = 0; count = count; looks = looks }
-told TooManyQubits = record { number = 1; count = 0; looks = 0 }
-told WrongRowCount = record { number = 2; count = 0; looks = 0 }
-told RowTooWide = record { number = 3; count = 0; looks = 0 }
-told NotSymplectic = record { number = 4; count = 0; looks = 0 }
-told OutputTooShort = record { number = 5; count = 0; looks = 0 }
-told (Spent looks) = record { number = 6; count = 0; looks = looks }
-told (NotBordered looks) = record { number = 7; count = 0; looks = looks }
+-- the number of the question that was answered no, 0 for an answer; the count of the list; the looks of the search. Open to users
+abbrev pub figuresOf : Minimal → Figures
+figuresOf (Listed count looks) = record { number = 0; count = count; looks = looks }
+figuresOf TooManyQubits = record { number = 1; count = 0; looks = 0 }
+figuresOf WrongRowCount = record { number = 2; count = 0; looks = 0 }
+figuresOf RowTooWide = record { number = 3; count = 0; looks = 0 }
+figuresOf NotSymplectic = record { number = 4; count = 0; looks = 0 }
+figuresOf OutputTooShort = record { number = 5; count = 0; looks = 0 }
+figuresOf (Spent looks) = record { number = 6; count = 0; looks = looks }
+figuresOf (NotBordered looks) = record { number = 7; count = 0; looks = looks }
 
--- where the call answers, no list of vectors on 2n columns whose product is the action has fewer entries
-unfoldable pub Shortest : ℕ → List ℕ → Told → Type 0
-Shortest n rows t = t .number ≡ 0 → NoneShorter n (rowsOfWords rows) (t .count)
+-- where the call answers, no list of vectors on 2n columns whose product is the action has fewer entries. Open to users, as `Exact` is
+abbrev pub Shortest : ℕ → List ℕ → Figures → Type 0
+Shortest n rows t = t .number ≡ 0 → NoneShorter n (rowsOfWords n rows) (t .count)
 
 -- questions 1 to 5, with 2n + 1 output words, are passed, and the search takes a look beyond the budget
 abbrev pub Beyond : ℕ → List ℕ → ℕ → List ℕ → Type 0
 Beyond n rows budget out =
-    let F = rowsOfWords rows in
+    let F = rowsOfWords n rows in
     (listQuestions n F (n + n + 1) (length out) ≡ 0) × (budget < looksOf (coreSearch n F))
 
 -- the budget is exact: 6 just where the search takes a look beyond it, and then every look was taken;
 -- an answer has the looks of the search without a budget
-unfoldable pub Exact : ℕ → List ℕ → ℕ → List ℕ → Told → Type 0
+abbrev pub Exact : ℕ → List ℕ → ℕ → List ℕ → Figures → Type 0
 Exact n rows budget out t =
     (t .number ≡ 6 → Beyond n rows budget out)
     × ((Beyond n rows budget out → t .number ≡ 6)
-    × ((t .number ≡ 0 → t .looks ≡ looksOf (coreSearch n (rowsOfWords rows)))
+    × ((t .number ≡ 0 → t .looks ≡ looksOf (coreSearch n (rowsOfWords n rows)))
     × (t .number ≡ 6 → t .looks ≡ budget)))

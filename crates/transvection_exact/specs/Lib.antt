@@ -1,3 +1,3 @@
 pub mod Minimal
-pub mod Shortest
+pub mod NoneShorter
 pub mod Answers

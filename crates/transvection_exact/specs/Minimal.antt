@@ -16,14 +16,14 @@ unfoldable pub coreSearch : ℕ → List ℕ → Outcome
 coreSearch n F = let r = length (basis n F) in search (form (core n F)) r (units r) 0
 
 -- 7: does the bordered candidate pass?
-abbrev pub borderedReply : Option (List ℕ) → ℕ → List ℕ → Reply
-borderedReply none looks out = refused 7 looks out
-borderedReply (some vs) looks out = listed vs looks out
+abbrev pub borderedReply : ℕ → Option (List ℕ) → ℕ → List ℕ → Reply
+borderedReply n none looks out = refused 7 looks out
+borderedReply n (some vs) looks out = listed n vs looks out
 
 -- found: each search vector times V, in order; not found: the bordered list
 abbrev pub endedReply : ℕ → List ℕ → Outcome → List ℕ → Reply
-endedReply n F (found ps looks) out = listed (map (λ p. times p (basis n F)) ps) looks out
-endedReply n F (failed looks) out = borderedReply (borderedList n F) looks out
+endedReply n F (found ps looks) out = listed n (map (λ p. times p (basis n F)) ps) looks out
+endedReply n F (failed looks) out = borderedReply n (borderedList n F) looks out
 
 -- 6: does the search end without a look beyond the budget?
 abbrev pub searchedReply : ℕ → List ℕ → Verdict → List ℕ → Reply
@@ -33,5 +33,5 @@ searchedReply n F (spent looks) out = refused 6 looks out
 -- questions 1 to 5, with 2n + 1 output words, then 6 and 7
 unfoldable pub minimalReply : ℕ → List ℕ → ℕ → List ℕ → Reply
 minimalReply n words budget out =
-    let F = rowsOfWords words in
+    let F = rowsOfWords n words in
     unlessRefused (listQuestions n F (n + n + 1) (length out)) out (searchedReply n F (budgeted budget (coreSearch n F)) out)

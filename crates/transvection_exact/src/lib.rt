@@ -1,17 +1,18 @@
 // The minimal list: as few turns as any list of the action has, laid into lent words.
 // In the source: transvection_exact.rs, `minimal_decomposition`, `clifford_to_transvections_minimal`.
 use blocks::Block;
+use bordered::Candidate;
 use symplectic::Action;
+use symplectic::Figures;
 use symplectic::Question;
-use symplectic::Told;
 use triangular::Ending;
 ghost use mathlib.Core.Path.{_≡_};
 ghost use Rattle.blocks.specs.Blocks.{rowsOf};
 ghost use Rattle.symplectic.specs.Actions.{qubits, matrix};
-ghost use Rattle.symplectic.specs.Replies.{toldOf, listed, Replays};
+ghost use Rattle.symplectic.specs.Replies.{listed, Replays};
 ghost use Rattle.triangular.specs.Search.{budgeted};
 ghost use Rattle.transvection_exact.specs.Minimal.{coreSearch, searchedReply, minimalReply};
-ghost use Rattle.transvection_exact.specs.Answers.{told, Shortest, Exact};
+ghost use Rattle.transvection_exact.specs.Answers.{figuresOf, Shortest, Exact};
 
 // What the call answers: how many vectors it listed after how many looks, or the first question that is answered no.
 pub enum Minimal {
@@ -26,27 +27,59 @@ pub enum Minimal {
 }
 
 // The number, the count and the looks that an answer stands for.
-pub fn tell(r: Minimal) -> Told
-    ensures { λ t. ⌜ t ≡ told r ⌝ }
+pub fn figures_of(r: Minimal) -> Figures
+    ensures { λ t. ⌜ t ≡ figuresOf r ⌝ }
 {
     match r {
-        Minimal::Listed { count, looks } => symplectic::telling(0, count, looks),
-        Minimal::TooManyQubits => symplectic::telling(1, 0, 0),
-        Minimal::WrongRowCount => symplectic::telling(2, 0, 0),
-        Minimal::RowTooWide => symplectic::telling(3, 0, 0),
-        Minimal::NotSymplectic => symplectic::telling(4, 0, 0),
-        Minimal::OutputTooShort => symplectic::telling(5, 0, 0),
-        Minimal::Spent { looks } => symplectic::telling(6, 0, looks),
-        Minimal::NotBordered { looks } => symplectic::telling(7, 0, looks),
+        Minimal::Listed { count, looks } => Figures {
+            number: 0,
+            count: count,
+            looks: looks,
+        },
+        Minimal::TooManyQubits => Figures {
+            number: 1,
+            count: 0,
+            looks: 0,
+        },
+        Minimal::WrongRowCount => Figures {
+            number: 2,
+            count: 0,
+            looks: 0,
+        },
+        Minimal::RowTooWide => Figures {
+            number: 3,
+            count: 0,
+            looks: 0,
+        },
+        Minimal::NotSymplectic => Figures {
+            number: 4,
+            count: 0,
+            looks: 0,
+        },
+        Minimal::OutputTooShort => Figures {
+            number: 5,
+            count: 0,
+            looks: 0,
+        },
+        Minimal::Spent { looks } => Figures {
+            number: 6,
+            count: 0,
+            looks: looks,
+        },
+        Minimal::NotBordered { looks } => Figures {
+            number: 7,
+            count: 0,
+            looks: looks,
+        },
     }
 }
 
-// The rows, laid into lent words.
-fn stored(list: Block, looks: u64, out: &mut [u64]) -> Minimal
-    ensures answered { λ r. ⌜ told r ≡ toldOf (listed (rowsOf list) looks (now (out .entry))) ⌝ }
-    ensures left { λ r. ⌜ now (out .exit) ≡ listed (rowsOf list) looks (now (out .entry)) .words ⌝ }
+// The rows, of n qubits, laid into lent words.
+fn stored(n: u64, list: Block, looks: u64, out: &mut [u64]) -> Minimal
+    ensures answered { λ r. ⌜ figuresOf r ≡ listed n (rowsOf list) looks (now (out .entry)) .figures ⌝ }
+    ensures left { λ r. ⌜ now (out .exit) ≡ listed n (rowsOf list) looks (now (out .entry)) .words ⌝ }
 {
-    blocks::store(list, out);
+    blocks::store(n, list, out);
     Minimal::Listed {
         count: blocks::length_of(list) as u64,
         looks: looks,
@@ -55,9 +88,10 @@ fn stored(list: Block, looks: u64, out: &mut [u64]) -> Minimal
 
 // Questions 6 and 7: the list of the search, else the bordered list.
 fn searched(a: Action, budget: u64, out: &mut [u64]) -> Minimal
-    ensures answered { λ r. ⌜ told r ≡ toldOf (searchedReply (qubits a) (matrix a) (budgeted budget (coreSearch (qubits a) (matrix a))) (now (out .entry))) ⌝ }
+    ensures answered { λ r. ⌜ figuresOf r ≡ searchedReply (qubits a) (matrix a) (budgeted budget (coreSearch (qubits a) (matrix a))) (now (out .entry)) .figures ⌝ }
     ensures left { λ r. ⌜ now (out .exit) ≡ searchedReply (qubits a) (matrix a) (budgeted budget (coreSearch (qubits a) (matrix a))) (now (out .entry)) .words ⌝ }
 {
+    let n = symplectic::qubits_of(a) as u64;
     let c = reduction::residue_core(a);
     let basis = c.basis;
     let core = c.core;
@@ -70,16 +104,20 @@ fn searched(a: Action, budget: u64, out: &mut [u64]) -> Minimal
         }
         Ending::Found => {
             let list = o.list;
-            return stored(blocks::product(list, basis), looks, out);
+            return stored(n, blocks::product(list, basis), looks, out);
         }
         Ending::Failed => {}
     }
-    let b = bordered::bordered_list(a, basis, core);
-    if !b.passed {
-        return Minimal::NotBordered { looks: looks };
+    let b = bordered::bordered_list(a);
+    let candidate = b.candidate;
+    match candidate {
+        Candidate::Rejected => {
+            return Minimal::NotBordered { looks: looks };
+        }
+        Candidate::Passed => {}
     }
     let list = b.list;
-    stored(list, looks, out)
+    stored(n, list, looks, out)
 }
 
 // A list of turns whose product is the lent action, and no list of it is shorter.
@@ -89,11 +127,11 @@ pub fn clifford_to_transvections_minimal(
     budget: u64,
     out: &mut [u64],
 ) -> Minimal
-    ensures answered { λ r. ⌜ told r ≡ toldOf (minimalReply n (now (rows .entry)) budget (now (out .entry))) ⌝ }
+    ensures answered { λ r. ⌜ figuresOf r ≡ minimalReply n (now (rows .entry)) budget (now (out .entry)) .figures ⌝ }
     ensures left { λ r. ⌜ now (out .exit) ≡ minimalReply n (now (rows .entry)) budget (now (out .entry)) .words ⌝ }
-    ensures replays { λ r. ⌜ Replays n (now (rows .entry)) (now (out .exit)) (told r) ⌝ }
-    ensures shortest { λ r. ⌜ Shortest n (now (rows .entry)) (told r) ⌝ }
-    ensures exact { λ r. ⌜ Exact n (now (rows .entry)) budget (now (out .entry)) (told r) ⌝ }
+    ensures replays { λ r. ⌜ Replays n (now (rows .entry)) (now (out .exit)) (figuresOf r) ⌝ }
+    ensures shortest { λ r. ⌜ Shortest n (now (rows .entry)) (figuresOf r) ⌝ }
+    ensures exact { λ r. ⌜ Exact n (now (rows .entry)) budget (now (out .entry)) (figuresOf r) ⌝ }
 {
     let question = symplectic::action_questions(n, rows);
     match question {
@@ -115,5 +153,5 @@ pub fn clifford_to_transvections_minimal(
     if out.len() < wanted as usize {
         return Minimal::OutputTooShort;
     }
-    searched(symplectic::load(n, rows), budget, out)
+    searched(symplectic::from_words(n, rows), budget, out)
 }

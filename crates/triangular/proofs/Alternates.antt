@@ -12,7 +12,7 @@ use borrow.Author.Tests.{not-true}
 use Rattle.binar.specs.Bits.{_⊻_, select, _⊕_}
 use Rattle.binar.proofs.Sums.{bxor-assoc, bxor-comm, bxor-self}
 use Rattle.blocks.specs.Matrices.{All}
-use Rattle.linear.specs.Space.{scale}
+use Rattle.linear.specs.VectorSpace.{scale}
 use Rattle.linear.specs.Span.{InSpan}
 use Rattle.linear.specs.Maps.{Additive, Form}
 use Rattle.linear.proofs.Sums.{left-comm, cancel-right, swap4, scale-o}

@@ -11,20 +11,25 @@ use native.Mathlib.Omega.{arith}
 use borrow.Author.Tests.{lt-leb, le-leb, leb-true, leb-false}
 use lib.Dec.{leb}
 use lib.ListN.{length, length-reverse, take}
-use Rattle.blocks.specs.Blocks.{room}
+use Rattle.blocks.specs.Blocks.{room, rowsOf}
 use Rattle.blocks.specs.Matrices.{times}
 use Rattle.blocks.proofs.Values.{push-fits}
 use Rattle.linear.specs.Maps.{Form}
 use Rattle.linear.proofs.Instances.{𝕎}
+use Rattle.triangular.specs.declared.Searched.{Searched}
 use Rattle.triangular.specs.declared.Ending.{Ending}
 use Rattle.triangular.specs.declared.Ending.the-variants.{Found, Failed, Spent}
 use Rattle.triangular.specs.Spaces.{complement, isAlternating}
 use Rattle.triangular.specs.Search.{Outcome, found, failed, unlessAlternating, afterRest, draw, draws, search, looksOf, Verdict, ended, spent, endedIf, budgeted}
-use Rattle.triangular.specs.Readings.{verdictOf}
+use Rattle.triangular.specs.Readings.{verdictOf, seen}
 use Rattle.triangular.proofs.Complete.{Right, search-right}
 use Rattle.triangular.proofs.Looks.{Up, after-up, draw-up, draws-up, search-up}
 
 -- ---- the verdict
+
+pub budgeted-is : (budget : ℕ) (out : Outcome) → budgeted budget out ≡ endedIf (leb (looksOf out) budget) out budget
+unfolding budgeted
+budgeted-is budget out = refl
 
 module _ (budget : ℕ) where
   ends : (out : Outcome) → looksOf out ≤ budget → budgeted budget out ≡ ended out
@@ -50,6 +55,10 @@ module _ (budget : ℕ) where
       go : (b : Bool) → leb (looksOf out) budget ≡ b → spent k ≡ endedIf b out budget → (k ≡ budget) × (budget < looksOf out)
       go true q e = let z : _≡_ {A = ℕ} 0 1 = cc in absurd (omega arith)
       go false q e = (cc, leb-false (looksOf out) budget q)
+
+pub seen-is : (r : Searched) → seen r ≡ verdictOf (r .ending) (r .looks) (rowsOf (r .list))
+unfolding seen
+seen-is r = refl
 
 -- what the code says of its ending
 module _ (v : Ending) (k : ℕ) (l : List ℕ) where
@@ -107,7 +116,7 @@ module _ (budget p : ℕ) (out : Outcome) where
     rest-kept is = ⊎-elim rest-failed rest-spent is
 
 -- what was found fits a block with p behind it
-module _ (E : Form 𝕎) (budget looks p d : ℕ) (bs : List ℕ) (size : length bs ≡ d) (fits : d < 65) where
+module _ (E : Form 𝕎) (budget looks p d : ℕ) (bs : List ℕ) (size : length bs ≡ d) (fits : d < room) where
   pub rest-pushed : (v : Ending) (k : ℕ) (l m : List ℕ) → verdictOf v k (reverse l) ≡ budgeted budget (search (E .at) d bs looks) → v ≡ Found
       → m ≡ take room (l ++ (p ∷ [])) → verdictOf Found k (reverse m) ≡ budgeted budget (afterRest p failed (search (E .at) d bs looks))
   rest-pushed v k l m ens is new =

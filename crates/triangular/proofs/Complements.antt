@@ -1,17 +1,16 @@
--- What a draw passes on: the part of a span on which an additive test is zero, one shorter; and the same by the first index that passes the test.
+-- What a draw passes on: the part of a span on which an additive test is zero, one shorter; and all members where none passes the test.
 -- Assumes nothing.
 use mathlib.Core.Path.{_≡_, refl, sym, ap, ap₂, _∙_, subst}
 use mathlib.Core.Bool.{Bool, true, false, true≢false}
-use mathlib.Core.List.{List, [], _∷_, _++_, map}
-use Prim.Native.Nat.{ℕ, zero, suc, _<_, zero-le, suc-le-suc}
-use native.Mathlib.Nat.{not-suc-le-zero, zero-lt-suc}
-use lib.ListN.{length, length-map, take, drop, getD}
+use mathlib.Core.List.{List, [], _∷_, map}
+use Prim.Native.Nat.{ℕ, zero, suc, _<_, suc-le-suc}
+use native.Mathlib.Nat.{zero-lt-suc}
+use lib.ListN.{length, length-map, getD}
 use Rattle.binar.specs.Bits.{_⊻_, select, _⊕_}
 use Rattle.binar.proofs.Sums.{bxor-self}
-use Rattle.blocks.proofs.Firsts.{First, first-later}
 use Rattle.blocks.specs.Matrices.{All}
 use Rattle.blocks.proofs.All.{All·map, All·to-map}
-use Rattle.linear.specs.Space.{scale}
+use Rattle.linear.specs.VectorSpace.{scale}
 use Rattle.linear.specs.Span.{InSpan}
 use Rattle.linear.specs.Maps.{Additive}
 use Rattle.linear.proofs.Sums.{add-zero, cancel-right, swap4, scale-xor, scale-o}
@@ -73,16 +72,16 @@ module _ (f : ℕ → Bool) (f-add : Additive 𝕎 𝔹 f) where
       go true g ih = ap suc (sym (length-map bs (past m)))
       go false g ih = ap suc (ih (at-plus-none x c m g ∙ e))
 
--- ---- by the first index
+-- ---- by its parts, and where no member passes the test
 
 module _ (f : ℕ → Bool) where
-  pub complement-at : (bs : List ℕ) (j : ℕ) → First f 0 bs 0 j
-      → complement f bs ≡ take j bs ++ map (λ y. y ⊕ select 0 (f y) (getD bs j 0)) (drop (suc j) bs)
+  pub complement-nil : complement f [] ≡ []
   unfolding complement
-  complement-at [] j h = absurd (not-suc-le-zero (h .inside))
-  complement-at (m ∷ bs) zero h = ap (λ b. dropOrKeep b m (map (λ y. y ⊕ select 0 (f y) m) bs) (complement f bs)) (h .at)
-  complement-at (m ∷ bs) (suc j) h =
-      ap₂ (λ b l. dropOrKeep b m (map (λ y. y ⊕ select 0 (f y) m) bs) l) (h .before zero zero-le (zero-lt-suc j)) (complement-at bs j (first-later f 0 m bs j h))
+  complement-nil = refl
+
+  pub complement-cons : (m : ℕ) (bs : List ℕ) → complement f (m ∷ bs) ≡ dropOrKeep (f m) m (map (λ y. y ⊕ select 0 (f y) m) bs) (complement f bs)
+  unfolding complement
+  complement-cons m bs = refl
 
   pub complement-none : (bs : List ℕ) → ((i : ℕ) → i < length bs → f (getD bs i 0) ≡ false) → complement f bs ≡ bs
   unfolding complement

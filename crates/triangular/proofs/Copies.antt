@@ -23,7 +23,7 @@ units-next l i v h e inv = taken-next l i v h ∙ ap₂ (λ m x. m ++ (x ∷ [])
 pub reversed-start : (M : List ℕ) (k : ℕ) → k ≡ length M → [] ≡ reverse (drop (k - 0) M)
 reversed-start M k e = ap reverse (sym (drop-of-length-le M {i = k - 0} (omega arith)))
 
-pub reversed-next : (M l : List ℕ) (k i x : ℕ) → k ≡ length M → k ≤ 65 → i < k → x ≡ getD M (k - 1 - i) 0 → l ≡ reverse (drop (k - i) M)
+pub reversed-next : (M l : List ℕ) (k i x : ℕ) → k ≡ length M → k ≤ room → i < k → x ≡ getD M (k - 1 - i) 0 → l ≡ reverse (drop (k - i) M)
     → take room (l ++ (x ∷ [])) ≡ reverse (drop (k - (i + 1)) M)
 reversed-next M l k i x e r h g inv =
     let n = k - 1 - i in

@@ -1,6 +1,6 @@
 -- Spaces of a core E: the form row of a member is the member times E, so a form with it is a dot; and the reads of the arrays that hold both.
 -- Assumes nothing.
-use mathlib.Core.Path.{_≡_, sym, ap, ap₂, _∙_}
+use mathlib.Core.Path.{_≡_, refl, sym, ap, ap₂, _∙_, fun-ext}
 use mathlib.Core.Bool.{Bool}
 use mathlib.Core.List.{List}
 use Prim.Native.Nat.{ℕ, _≤_, _<_}
@@ -8,14 +8,17 @@ use lib.ListN.{length, getD, take, List·getD-map}
 use lib.Seq.{getD-take, length-take-le}
 use Rattle.binar.specs.declared.Row.{Row}
 use Rattle.binar.specs.Bits.{dot}
-use Rattle.binar.specs.Rows.{val, blank}
-use Rattle.blocks.specs.Blocks.{vals}
+use Rattle.binar.specs.Rows.{val, width}
+use Rattle.binar.specs.inner.Blank.{blank}
+use Rattle.blocks.specs.declared.Block.{Block}
+use Rattle.blocks.specs.Blocks.{vals, rowsOf}
 use Rattle.blocks.specs.Matrices.{times, matmul}
 use Rattle.blocks.proofs.Values.{vals-get, vals-length}
-use Rattle.blocks.proofs.Products.{times-zero, times-matmul}
+use Rattle.blocks.proofs.Products.{times-zero, times-matmul, matmul-is}
 use Rattle.reduction.specs.Residue.{form}
+use Rattle.reduction.proofs.Forms.{form-is}
 use Rattle.triangular.specs.declared.Space.{Space}
-use Rattle.triangular.specs.Readings.{basisOf, formsOf}
+use Rattle.triangular.specs.Readings.{basisOf, formsOf, coreOf}
 
 -- ---- arrays
 
@@ -29,8 +32,7 @@ taken-length n l h = length-take-le n (vals l) (rw vals-length h)
 -- ---- forms
 
 pub row-times : (B E : List ℕ) (i : ℕ) → getD (matmul B E) i 0 ≡ times (getD B i 0) E
-unfolding matmul
-row-times B E i = ap (getD (matmul B E) i) (sym (times-zero E)) ∙ List·getD-map (λ a. times a E) B i 0
+row-times B E i = ap₂ (λ M d. getD M i d) (matmul-is B E) (sym (times-zero E)) ∙ List·getD-map (λ a. times a E) B i 0
 
 module _ (B G E : List ℕ) (is : matmul B E ≡ G) where
   pub core-row : (i : ℕ) → getD G i 0 ≡ times (getD B i 0) E
@@ -40,18 +42,32 @@ module _ (B G E : List ℕ) (is : matmul B E ≡ G) where
   core-drawn c p f e g = g ∙ ap (times c) (sym is) ∙ times-matmul B E c ∙ ap (λ x. times x E) (sym e)
 
 pub form-dot : (E : List ℕ) (p f y : ℕ) → f ≡ times p E → form E p y ≡ dot f y
-unfolding form
-form-dot E p f y e = ap (λ x. dot x y) (sym e)
+form-dot E p f y e = form-is E p y ∙ ap (λ x. dot x y) (sym e)
 
 pub form-row : (E : List ℕ) (p f : ℕ) → f ≡ times p E → _≡_ {A = ℕ → Bool} (form E p) (dot f)
-unfolding form
-form-row E p f e = ap dot (sym e)
+form-row E p f e = fun-ext (λ y. form-dot E p f y e)
 
 -- ---- spaces
+
+pub basis-rows : (s : Space) → basisOf s ≡ take (s .count) (vals (s .basis))
+unfolding basisOf
+basis-rows s = refl
+
+pub form-rows : (s : Space) → formsOf s ≡ take (s .count) (vals (s .forms))
+unfolding formsOf
+form-rows s = refl
+
+pub core-rows : (b : Block) → coreOf b ≡ take width (rowsOf b)
+unfolding coreOf
+core-rows b = refl
 
 pub basis-length : (s : Space) → s .count ≤ length (s .basis) → length (basisOf s) ≡ s .count
 unfolding basisOf
 basis-length s h = taken-length (s .count) (s .basis) h
+
+pub forms-length : (s : Space) → s .count ≤ length (s .forms) → length (formsOf s) ≡ s .count
+unfolding formsOf
+forms-length s h = taken-length (s .count) (s .forms) h
 
 -- a dot of what is read is the form of two members
 pub space-form : (s : Space) (E : List ℕ) → matmul (basisOf s) E ≡ formsOf s → (i j : ℕ) → i < s .count → j < s .count

@@ -9,13 +9,15 @@ use native.Mathlib.Nat.{one-mul, pow-suc, mod-eq-of-lt, eq-or-lt-of-le}
 use native.Mathlib.Omega.{arith}
 use lib.ListN.{length, getD, set, take}
 use lib.Seq.{getD-take, getD-set-same, getD-set-other}
-use lib.Pow.{pow-pos, pow-mono, ones-lt}
+use lib.Pow.{pow-pos, ones-lt}
 use borrow.Author.Tests.{ne-eqb}
 use Rattle.binar.specs.declared.Row.{Row}
 use Rattle.binar.specs.Bits.{_⊕_, dot}
-use Rattle.binar.specs.Rows.{val, blank, width, lowest}
+use Rattle.binar.specs.Rows.{val, width, rowBound, lowest}
+use Rattle.binar.specs.inner.Blank.{blank}
 use Rattle.binar.proofs.Sums.{parts-sum, sum-comm}
 use Rattle.binar.proofs.Dots.{dot-sum}
+use Rattle.binar.proofs.Widths.{pow-bound}
 use Rattle.binar.proofs.Counting.{next-flips}
 use Rattle.blocks.specs.Blocks.{vals}
 use Rattle.blocks.specs.Matrices.{times}
@@ -28,9 +30,8 @@ use Rattle.triangular.specs.Spaces.{complement}
 use Rattle.triangular.proofs.Complements.{complement-length, complement-none}
 
 -- the last coefficient
-pub ones-last : (d x : ℕ) → d ≤ 64 → x ≡ (2 ^ d - 1) % 2 ^ width → x ≡ 2 ^ d - 1
-unfolding width
-ones-last d x h e = e ∙ mod-eq-of-lt (omega (arith, pow-mono h, pow-pos d))
+pub ones-last : (d x : ℕ) → d ≤ width → x ≡ (2 ^ d - 1) % rowBound → x ≡ 2 ^ d - 1
+ones-last d x h e = e ∙ mod-eq-of-lt (omega (arith, pow-bound d h, pow-pos d))
 
 -- ---- the sums of the first members
 
@@ -86,13 +87,12 @@ module _ (k : ℕ) (rows : List Row) where
 
 -- ---- one draw: c is behind, x comes next, last is the last of d members
 
-module _ (d last c x : ℕ) (fits : d ≤ 64) (last-is : last ≡ (2 ^ d - 1) % 2 ^ width) (less : c < last) (x-is : x ≡ (c + 1) % 2 ^ width) where
+module _ (d last c x : ℕ) (fits : d ≤ width) (last-is : last ≡ (2 ^ d - 1) % rowBound) (less : c < last) (x-is : x ≡ (c + 1) % rowBound) where
   last-below : last < 2 ^ d
   last-below = let e = ones-last d last fits last-is in omega (arith, pow-pos d)
 
-  inside : c + 1 < 2 ^ width
-  unfolding width
-  inside = omega (arith, last-below, pow-mono fits)
+  inside : c + 1 < rowBound
+  inside = omega (arith, last-below, pow-bound d fits)
 
   pub next-is : x ≡ c + 1
   next-is = x-is ∙ mod-eq-of-lt inside

@@ -1,4 +1,5 @@
 pub mod Complements
+pub mod FormRows
 pub mod Alternates
 pub mod Complete
 pub mod Looks
@@ -7,3 +8,4 @@ pub mod Cores
 pub mod Drawing
 pub mod Dropping
 pub mod Copies
+pub mod Verdicts

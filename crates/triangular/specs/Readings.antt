@@ -1,6 +1,6 @@
 -- What the values of the code mean: a space, the rows of a core, and what a search has come to.
 -- Assumes nothing.
-use mathlib.Core.List.{List, reverse}
+use mathlib.Core.List.{List}
 use Prim.Native.Nat.{ℕ}
 use lib.ListN.{take}
 use Rattle.binar.specs.Rows.{width}
@@ -31,7 +31,3 @@ verdictOf Spent looks ps = spent looks
 -- the list in order
 unfoldable pub seen : Searched → Verdict
 seen r = verdictOf (r .ending) (r .looks) (rowsOf (r .list))
-
--- the list from its end, as it is built
-unfoldable pub seenBack : Searched → Verdict
-seenBack r = verdictOf (r .ending) (r .looks) (reverse (rowsOf (r .list)))

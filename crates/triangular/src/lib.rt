@@ -1,25 +1,27 @@
 // The search for a basis that makes the core triangular, draw by draw under a budget.
 // In the source: transvection_exact.rs, `is_alternating`, `SpanVectors`, `right_orthogonal_complement`, `triangularize_subspace`, `congruence_triangularize`.
 use binar::Row;
+use binar::WIDTH;
 use blocks::Block;
 ghost use mathlib.Core.Path.{_≡_};
 ghost use mathlib.Core.Bool.{true, false};
-ghost use mathlib.Core.List.{List, [], reverse};
+ghost use mathlib.Core.List.{List, [], reverse, zip};
 ghost use Prim.Native.Nat.{ℕ, suc, _-_, _^_, _≤_, _<_};
 ghost use lib.ListN.{length, getD};
 ghost use Rattle.binar.specs.Bits.{select, _⊕_, dot};
-ghost use Rattle.binar.specs.Rows.{val};
+ghost use Rattle.binar.specs.Rows.{val, width};
 ghost use Rattle.blocks.specs.Blocks.{vals, rowsOf};
 ghost use Rattle.blocks.specs.Matrices.{times, matmul, units};
 ghost use Rattle.reduction.specs.Residue.{form};
-ghost use Rattle.triangular.specs.Spaces.{complement, isAlternating};
+ghost use Rattle.triangular.specs.Spaces.{complement, complementRows, isAlternating};
 ghost use Rattle.triangular.specs.Search.{failed, afterRest, search, budgeted};
-ghost use Rattle.triangular.specs.Readings.{basisOf, formsOf, coreOf, verdictOf, seen, seenBack};
+ghost use Rattle.triangular.specs.Readings.{basisOf, formsOf, coreOf, verdictOf, seen};
+ghost use Rattle.triangular.specs.inner.Backward.{seenBack};
 
 // A space: the members of a basis, and beside each its form row, the member times the core.
 pub struct Space {
-    pub basis: [Row; 64],
-    pub forms: [Row; 64],
+    pub basis: [Row; WIDTH],
+    pub forms: [Row; WIDTH],
     pub count: usize,
 }
 
@@ -44,7 +46,7 @@ fn added(y: Row, m: Row, hit: bool) -> Row
 
 // Whether the form is alternating: each member is tested with those before it, then with itself.
 fn is_alternating(s: Space) -> bool
-    requires { ⌜ s .count ≤ 64 ⌝ }
+    requires { ⌜ s .count ≤ width ⌝ }
     ensures { λ r. ⌜ ((E : List ℕ) → matmul (basisOf s) E ≡ formsOf s → r ≡ isAlternating (form E) (basisOf s)) ⌝ }
 {
     let k = s.count;
@@ -68,12 +70,12 @@ fn is_alternating(s: Space) -> bool
 }
 
 // A count above the room means the room.
-fn capped(s: Space) -> Space
-    ensures { λ r. ⌜ (r .count ≡ length (basisOf r)) × (r .count ≤ 64) × (basisOf r ≡ basisOf s) × (formsOf r ≡ formsOf s) ⌝ }
+fn within_room(s: Space) -> Space
+    ensures { λ r. ⌜ (r .count ≡ length (basisOf r)) × (r .count ≤ width) × (length (basisOf r) ≡ length (formsOf r)) × (basisOf r ≡ basisOf s) × (formsOf r ≡ formsOf s) ⌝ }
 {
-    if 64 < s.count {
+    if WIDTH < s.count {
         let mut t = s;
-        t.count = 64;
+        t.count = WIDTH;
         t
     } else {
         s
@@ -82,7 +84,7 @@ fn capped(s: Space) -> Space
 
 // The first member that f has a dot with; the count where there is none.
 fn first_dot(s: Space, f: Row) -> usize
-    requires { ⌜ s .count ≤ 64 ⌝ }
+    requires { ⌜ s .count ≤ width ⌝ }
     ensures { λ r. ⌜ (r ≤ s .count) × ((i : ℕ) → i < r → dot (val f) (getD (basisOf s) i 0) ≡ false)
         × (r < s .count → dot (val f) (getD (basisOf s) r 0) ≡ true) ⌝ }
 {
@@ -97,9 +99,9 @@ fn first_dot(s: Space, f: Row) -> usize
 
 // Member j, the first that f has a dot with, is dropped and added to each later one that f has a dot with.
 fn dropped(s: Space, f: Row, j: usize) -> Space
-    requires { ⌜ (s .count ≤ 64) × (j < s .count) × ((i : ℕ) → i < j → dot (val f) (getD (basisOf s) i 0) ≡ false) × (dot (val f) (getD (basisOf s) j 0) ≡ true) ⌝ }
-    ensures { λ r. ⌜ (r .count ≡ s .count - 1) × (basisOf r ≡ complement (dot (val f)) (basisOf s))
-        × ((E : List ℕ) → matmul (basisOf s) E ≡ formsOf s → matmul (basisOf r) E ≡ formsOf r) ⌝ }
+    requires { ⌜ (s .count ≤ width) × (j < s .count) × ((i : ℕ) → i < j → dot (val f) (getD (basisOf s) i 0) ≡ false) × (dot (val f) (getD (basisOf s) j 0) ≡ true) ⌝ }
+    ensures { λ r. ⌜ (r .count ≡ s .count - 1) × (length (basisOf r) ≡ length (formsOf r))
+        × (zip (basisOf r) (formsOf r) ≡ complementRows (dot (val f)) (zip (basisOf s) (formsOf s))) ⌝ }
 {
     let mut t = s;
     let m = t.basis[j];
@@ -118,17 +120,17 @@ fn dropped(s: Space, f: Row, j: usize) -> Space
 
 // What a draw with form row f passes on; the space itself where f has a dot with no member.
 pub fn right_orthogonal_complement(s: Space, f: Row) -> Space
-    ensures { λ r. ⌜ (r .count ≡ length (basisOf r)) × (r .count ≤ 64) × (basisOf r ≡ complement (dot (val f)) (basisOf s))
-        × ((E : List ℕ) → matmul (basisOf s) E ≡ formsOf s → matmul (basisOf r) E ≡ formsOf r) ⌝ }
+    ensures { λ r. ⌜ (r .count ≡ length (basisOf r)) × (r .count ≤ width) × (length (basisOf r) ≡ length (formsOf r))
+        × (zip (basisOf r) (formsOf r) ≡ complementRows (dot (val f)) (zip (basisOf s) (formsOf s))) ⌝ }
 {
-    let t = capped(s);
+    let t = within_room(s);
     let j = first_dot(t, f);
     if j < t.count { dropped(t, f, j) } else { t }
 }
 
 // Member i becomes the sum of members 0 to i, and its form row with it.
 fn sums(s: Space) -> Space
-    requires { ⌜ (0 < s .count) × (s .count ≤ 64) ⌝ }
+    requires { ⌜ (0 < s .count) × (s .count ≤ width) ⌝ }
     ensures { λ r. ⌜ ((i : ℕ) → i < s .count → (getD (vals (r .basis)) i 0 ≡ times (2 ^ suc i - 1) (basisOf s))
         × (getD (vals (r .forms)) i 0 ≡ times (2 ^ suc i - 1) (formsOf s))) ⌝ }
 {
@@ -142,7 +144,7 @@ fn sums(s: Space) -> Space
 }
 
 // An ending with no list.
-fn bare(ending: Ending, looks: u64) -> Searched
+fn without_list(ending: Ending, looks: u64) -> Searched
     ensures { λ r. ⌜ (seenBack r ≡ verdictOf ending looks []) × (r .looks ≡ looks) ⌝ }
 {
     Searched {
@@ -154,7 +156,7 @@ fn bare(ending: Ending, looks: u64) -> Searched
 
 // The search of what the draw p, with form row f, passes on; p stands behind what it finds.
 fn try_draw(s: Space, p: Row, f: Row, looks: u64, budget: u64) -> Searched
-    requires { ⌜ (0 < s .count) × (s .count ≤ 64) × (looks ≤ budget) × (dot (val f) (val p) ≡ true)
+    requires { ⌜ (0 < s .count) × (s .count ≤ width) × (looks ≤ budget) × (dot (val f) (val p) ≡ true)
         × ((c : ℕ) × (val p ≡ times c (basisOf s)) × (val f ≡ times c (formsOf s))) ⌝ }
     ensures { λ r. ⌜ (r .looks ≤ budget) × ((E : List ℕ) → matmul (basisOf s) E ≡ formsOf s
         → seenBack r ≡ budgeted budget (afterRest (val p) failed (search (form E) (s .count - 1) (complement (form E (val p)) (basisOf s)) looks))) ⌝ }
@@ -180,16 +182,16 @@ fn try_draw(s: Space, p: Row, f: Row, looks: u64, budget: u64) -> Searched
 
 // The search of a space: its vectors in the order of their coefficients c, each drawn from the one before it.
 fn try_space(s: Space, looks: u64, budget: u64) -> Searched
-    requires { ⌜ (s .count ≤ 64) × (looks ≤ budget) ⌝ }
+    requires { ⌜ (s .count ≤ width) × (looks ≤ budget) ⌝ }
     ensures { λ r. ⌜ (r .looks ≤ budget) × ((E : List ℕ) → matmul (basisOf s) E ≡ formsOf s
         → seenBack r ≡ budgeted budget (search (form E) (s .count) (basisOf s) looks)) ⌝ }
 {
     let d = s.count;
     if d == 0 {
-        return bare(Ending::Found, looks);
+        return without_list(Ending::Found, looks);
     }
     if is_alternating(s) {
-        return bare(Ending::Failed, looks);
+        return without_list(Ending::Failed, looks);
     }
     let t = sums(s);
     let last = binar::low_ones(d);
@@ -200,7 +202,7 @@ fn try_space(s: Space, looks: u64, budget: u64) -> Searched
     while binar::less(c, last) {
         c = binar::next(c);
         if spent == budget {
-            return bare(Ending::Spent, spent);
+            return without_list(Ending::Spent, spent);
         }
         spent += 1;
         let k = binar::lowest(c);
@@ -219,26 +221,25 @@ fn try_space(s: Space, looks: u64, budget: u64) -> Searched
             }
         }
     }
-    bare(Ending::Failed, spent)
+    without_list(Ending::Failed, spent)
 }
 
 // How many rows the core has.
 fn size_of(core: Block) -> usize
-    ensures { λ r. ⌜ (r ≤ 64) × (r ≡ length (coreOf core)) ⌝ }
+    ensures { λ r. ⌜ (r ≤ width) × (r ≡ length (coreOf core)) ⌝ }
 {
-    let n = blocks::length_of(core);
-    if n < 64 { n } else { 64 }
+    blocks::lesser(WIDTH, blocks::length_of(core))
 }
 
 // The space of all rows as wide as the core: the unit rows, with the rows of the core for their form rows.
 pub fn whole(core: Block) -> Space
-    ensures { λ r. ⌜ (r .count ≤ 64) × (r .count ≡ length (coreOf core)) × (basisOf r ≡ units (length (coreOf core))) × (formsOf r ≡ coreOf core) ⌝ }
+    ensures { λ r. ⌜ (r .count ≤ width) × (r .count ≡ length (coreOf core)) × (basisOf r ≡ units (length (coreOf core))) × (formsOf r ≡ coreOf core) ⌝ }
 {
     let k = size_of(core);
     let z = binar::zero();
     let mut s = Space {
-        basis: [z; 64],
-        forms: [z; 64],
+        basis: [z; WIDTH],
+        forms: [z; WIDTH],
         count: k,
     };
     for i in 0..k {
@@ -260,7 +261,7 @@ fn reversed(b: Block) -> Block
     n
 }
 
-// Looks for a basis that makes the core triangular. Of a core of more than 64 rows the first 64 are taken.
+// Looks for a basis that makes the core triangular. Rows of the core past the columns of a row are left out.
 pub fn congruence_triangularize(core: Block, budget: u64) -> Searched
     ensures { λ r. ⌜ seen r ≡ budgeted budget (search (form (coreOf core)) (length (coreOf core)) (units (length (coreOf core))) 0) ⌝ }
 {

@@ -4,7 +4,7 @@ use mathlib.Core.Path.{sym}
 use lib.Pow.{pow-pos}
 use native.Mathlib.Omega.{arith}
 use Rattle.binar.proofs.Widths.{past-ones}
-use Rattle.binar.specs.Rows.{val, width}
+use Rattle.binar.specs.Rows.{val, rowBound}
 use borrow.Author.Needs.{needs}
 use Rattle.binar.proofs.low_ones.Statement.{statement}
 use Rattle.binar.proofs.low_ones.Tie as tie
@@ -16,11 +16,11 @@ sub-t5 : tie.Need-sub-t5
 sub-t5 c = omega (arith, c .power .ensures, pow-pos (c .before .before .args .k))
 
 returns : tie.Need-returns
-unfolding val width
+unfolding val rowBound
 returns c = search needs
 
 returns-2 : tie.Need-returns-2
-unfolding val width
+unfolding val rowBound
 returns-2 c = sym (past-ones (c .before .args .k) (search needs))
 
 pub low-ones-spec : {M : Type 1} → statement M

@@ -2,7 +2,7 @@
 -- Assumes nothing.
 use mathlib.Core.Path.{sym}
 use Rattle.binar.proofs.Widths.{past-up}
-use Rattle.binar.specs.Rows.{val, width}
+use Rattle.binar.specs.Rows.{val, rowBound}
 use borrow.Author.Needs.{needs}
 use Rattle.binar.proofs.shift_up.Statement.{statement}
 use Rattle.binar.proofs.shift_up.Tie as tie
@@ -11,11 +11,11 @@ shl-t7 : tie.Need-shl-t7
 shl-t7 c = search needs
 
 returns : tie.Need-returns
-unfolding val width
+unfolding val rowBound
 returns c = search needs
 
 returns-2 : tie.Need-returns-2
-unfolding val width
+unfolding val rowBound
 returns-2 c = sym (past-up (c .before .args .a .word) (c .before .args .k) (search needs))
 
 pub shift-up-spec : {M : Type 1} → statement M

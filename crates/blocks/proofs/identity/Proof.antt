@@ -7,7 +7,7 @@ use native.Mathlib.Omega.{arith}
 use Rattle.binar.proofs.Ones.{unit-is}
 use Rattle.blocks.proofs.Units.{units-length, units-at}
 use Rattle.blocks.proofs.Values.{write-next, write-end, unmapped}
-use Rattle.blocks.specs.Blocks.{vals, rowsOf}
+use Rattle.blocks.specs.Blocks.{room, vals, rowsOf}
 use Rattle.binar.specs.Rows.{width}
 use Rattle.blocks.specs.Matrices.{units}
 use borrow.Author.Needs.{needs}
@@ -15,7 +15,7 @@ use Rattle.blocks.proofs.identity.Statement.{statement}
 use Rattle.blocks.proofs.identity.Tie as tie
 
 abbrev Inv-loop : tie.InvT-loop
-Inv-loop m k n₀ i₀ n i = (i ≤ k) × (k ≤ 64) × (length (n .rows) ≡ 65) × (take i (vals (n .rows)) ≡ take i (units k))
+Inv-loop m k n₀ i₀ n i = (i ≤ k) × (k ≤ width) × (length (n .rows) ≡ room) × (take i (vals (n .rows)) ≡ take i (units k))
 
 abbrev μ-loop : tie.MeasureT-loop
 μ-loop m k n₀ i₀ n i = k - i
@@ -45,7 +45,6 @@ loop-less : tie.Need-loop-less Inv-loop μ-loop
 loop-less c = search needs
 
 loop-again : tie.Need-loop-again Inv-loop μ-loop
-unfolding width
 loop-again c =
     let at = c .before .before .loop in
     let k = c .before .before .before .before .lesser .result in
@@ -58,7 +57,7 @@ loop-again c =
     )
 
 returns : tie.Need-returns Inv-loop μ-loop
-unfolding rowsOf width
+unfolding rowsOf
 returns c =
     let at = c .before .loop in
     let k = c .before .before .before .lesser in

@@ -4,7 +4,7 @@ use mathlib.Core.Path.{_≡_, refl, sym, ap, _∙_}
 use Prim.Native.Nat.{ℕ, _-_, _≤_, _<_}
 use lib.ListN.{length, take, length-set}
 use native.Mathlib.Omega.{arith}
-use Rattle.blocks.specs.Blocks.{vals, rowsOf}
+use Rattle.blocks.specs.Blocks.{room, vals, rowsOf}
 use Rattle.blocks.specs.Matrices.{times, matmul}
 use Rattle.blocks.proofs.Products.{matmul-length}
 use Rattle.blocks.proofs.Values.{rows-get, rows-fit, write-next, write-end, map-get, unmapped}
@@ -14,7 +14,7 @@ use Rattle.blocks.proofs.product.Tie as tie
 
 abbrev Inv-loop : tie.InvT-loop
 Inv-loop b a k n₀ i₀ n i =
-    (i ≤ k) × (k ≤ 65) × (length (n .rows) ≡ 65) × (take i (vals (n .rows)) ≡ take i (matmul (rowsOf a) (rowsOf b)))
+    (i ≤ k) × (k ≤ room) × (length (n .rows) ≡ room) × (take i (vals (n .rows)) ≡ take i (matmul (rowsOf a) (rowsOf b)))
 
 abbrev μ-loop : tie.MeasureT-loop
 μ-loop b a k n₀ i₀ n i = k - i

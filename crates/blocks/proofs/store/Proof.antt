@@ -1,22 +1,23 @@
--- `store` lays the rows one by one, by `laid-more` and `laid-end`.
+-- `store` lays the rows one by one, by `laid-next` and `laid-end`.
 -- Assumes nothing.
-use mathlib.Core.Path.{_≡_, refl, ap₂, _∙_}
-use mathlib.Core.List.{List, _++_}
-use Prim.Native.Nat.{ℕ, _-_, _≤_, _<_}
-use lib.ListN.{length, getD, set, take, drop, length-set}
+use mathlib.Core.Path.{_≡_, refl, _∙_}
+use mathlib.Core.List.{_++_}
+use Prim.Native.Nat.{_-_, _≤_, _<_}
+use lib.ListN.{length, take, drop, length-set}
 use native.Mathlib.Omega.{arith}
-use Rattle.blocks.proofs.Values.{rows-fit, laid-more, laid-end, rows-get, unmapped}
+use Rattle.blocks.proofs.Values.{rows-fit, laid-next, laid-end, rows-get, unmapped}
 use Rattle.blocks.specs.Blocks.{rowsOf}
+use Rattle.blocks.specs.Words.{wordsOfRows}
 use borrow.Author.Needs.{needs}
 use Rattle.blocks.proofs.store.Statement.{statement}
 use Rattle.blocks.proofs.store.Tie as tie
 
 abbrev Inv-loop : tie.InvT-loop
-Inv-loop out₀ b k i₀ out i =
-    (i ≤ k) × (length out ≡ length out₀) × (out ≡ take i (rowsOf b) ++ drop i out₀)
+Inv-loop n out₀ b k i₀ out i =
+    (i ≤ k) × (length out ≡ length out₀) × (out ≡ take i (wordsOfRows n (rowsOf b)) ++ drop i out₀)
 
 abbrev μ-loop : tie.MeasureT-loop
-μ-loop out₀ b k i₀ out i = k - i
+μ-loop n out₀ b k i₀ out i = k - i
 
 length-of-requires : tie.Need-length-of-requires Inv-loop μ-loop
 length-of-requires c κs = search needs
@@ -32,7 +33,7 @@ mul-word c = search needs
 
 element-copy-out-word : tie.Need-element-copy-out-word Inv-loop μ-loop
 element-copy-out-word c =
-    let h = rows-fit (c .before .before .before .before .before .args .t1) (search (needs, unmapped)) in
+    let h = rows-fit (c .before .before .before .before .before .args .t2) (search (needs, unmapped)) in
     omega (arith, c .before .before .lesser .ensures, c .before .before .before .length-of .ensures)
 
 word-requires : tie.Need-word-requires Inv-loop μ-loop
@@ -54,13 +55,12 @@ loop-again : tie.Need-loop-again Inv-loop μ-loop
 loop-again c =
     let s = c .before .before .before .before .before .before .before .args in
     let at = c .before .before .before .loop in
-    let rows = rowsOf (s .t1) in
+    let rows = rowsOf (s .t2) in
     let h : at .i < length rows = omega (arith, c .before .before .before .before .lesser .ensures, c .before .before .before .before .before .length-of .ensures) in
-    let g : at .i < length (s .out .now) = omega (arith, c .before .before .before .before .lesser .ensures) in
-    let e : c .word .result ≡ getD rows (at .i) 0 = c .word .ensures ∙ rows-get (s .t1) (at .i) h in (
+    let g : at .i < length (s .out .now) = omega (arith, c .before .before .before .before .lesser .ensures) in (
       search needs,
       simp length-set (at .inv .1),
-      ap₂ (λ (x : List ℕ) (v : ℕ). set x (at .i) v) (at .inv .2) e ∙ laid-more rows (s .out .now) (at .i) h g,
+      laid-next (s .n) rows (s .out .now) (at .out) (at .i) (c .word .result) _ h g (at .inv .2) (c .word .ensures) (rows-get (s .t2) (at .i) h),
     )
 
 same-length : tie.Need-same-length Inv-loop μ-loop
@@ -69,7 +69,7 @@ same-length c = search needs
 returns : tie.Need-returns Inv-loop μ-loop
 returns c =
     let s = c .before .before .before .before .before .args in
-    c .before .loop .inv .2 ∙ laid-end (rowsOf (s .t1)) (s .out .now) (c .before .loop .i) (omega (arith, c .before .before .lesser .ensures, c .before .before .before .length-of .ensures))
+    c .before .loop .inv .2 ∙ laid-end (s .n) (rowsOf (s .t2)) (s .out .now) (c .before .loop .i) (omega (arith, c .before .before .lesser .ensures, c .before .before .before .length-of .ensures))
 
 pub store-spec : {M : Type 1} → statement M
 store-spec =

@@ -9,8 +9,9 @@ use lib.ListN.{length}
 use native.Mathlib.Omega.{arith}
 use Rattle.blocks.proofs.Products.{lowest-row, times-next, times-done, times-low}
 use Rattle.binar.proofs.Ones.{unit-is}
+use Rattle.binar.proofs.Widths.{val-lt}
 use Rattle.binar.proofs.Sums.{zero-sum}
-use Rattle.binar.specs.Rows.{lowest, val, width}
+use Rattle.binar.specs.Rows.{lowest, val, width, rowBound}
 use Rattle.blocks.proofs.Values.{rows-get}
 use Rattle.blocks.specs.Blocks.{rowsOf}
 use Rattle.blocks.specs.Matrices.{times}
@@ -22,7 +23,7 @@ use Rattle.blocks.proofs.times.Tie as tie
 
 abbrev Inv-loop : tie.InvT-loop
 Inv-loop b k w₀ bits₀ w bits =
-    (val bits < 2 ^ width) × (val bits < 2 ^ length (rowsOf b)) × (val w ⊕ times (val bits) (rowsOf b) ≡ times (val bits₀) (rowsOf b))
+    (val bits < rowBound) × (val bits < 2 ^ length (rowsOf b)) × (val w ⊕ times (val bits) (rowsOf b) ≡ times (val bits₀) (rowsOf b))
 
 abbrev μ-loop : tie.MeasureT-loop
 μ-loop b k w₀ bits₀ w bits = val bits
@@ -58,12 +59,11 @@ low-requires : tie.Need-low-requires Inv-loop μ-loop
 low-requires c κs = search needs
 
 loop-holds : tie.Need-loop-holds Inv-loop μ-loop
-unfolding val width
 loop-holds c =
     let s = c .before .before .before .args in
     let rows = rowsOf (s .t2) in
     let e = c .low .ensures ∙ ap (λ (k : ℕ). val (s .c) % 2 ^ k) (c .before .before .length-of .ensures) in (
-      search needs,
+      search (needs, val-lt),
       subst (λ (x : ℕ). x < 2 ^ length rows) (sym e) (mod-lt (val (s .c)) (pow-pos (length rows))),
       ap (λ (x : ℕ). x ⊕ times (val (c .low .result)) rows) (c .before .zero .ensures) ∙ zero-sum (times (val (c .low .result)) rows),
     )
@@ -75,11 +75,9 @@ lowest-requires : tie.Need-lowest-requires Inv-loop μ-loop
 lowest-requires c κs = search needs
 
 mul-sum : tie.Need-mul-sum Inv-loop μ-loop
-unfolding width
 mul-sum c = omega (arith, c .lowest .ensures, low (c .before) .0)
 
 element-copy-out-sum : tie.Need-element-copy-out-sum Inv-loop μ-loop
-unfolding width
 element-copy-out-sum c = omega (arith, c .lowest .ensures, low (c .before) .0)
 
 sum-requires : tie.Need-sum-requires Inv-loop μ-loop

@@ -1,6 +1,6 @@
--- `word` answers a row's value: a row has no more columns than a word.
+-- `word` answers the lowest 64 columns of a row, as `wordOf` says.
 -- Assumes nothing.
-use Rattle.binar.specs.Rows.{val}
+use Rattle.blocks.specs.Words.{wordOf}
 use borrow.Author.Needs.{needs}
 use Rattle.blocks.proofs.word.Statement.{statement}
 use Rattle.blocks.proofs.word.Tie as tie
@@ -9,7 +9,7 @@ word-of-requires : tie.Need-word-of-requires
 word-of-requires c κs = search needs
 
 returns : tie.Need-returns
-unfolding val
+unfolding wordOf
 returns c = search needs
 
 pub word-spec : {M : Type 1} → statement M

@@ -1,43 +1,53 @@
 -- `bordered_list` lists what the two checks pass of the family of the core, by `listed-by`.
 -- Assumes nothing.
-use Rattle.bordered.proofs.Marked.{listed-vectors}
 use Rattle.bordered.proofs.Listed.{unlisted, listed-by}
 use Rattle.bordered.specs.Readings.{listedOf}
-use Rattle.bordered.specs.Checks.{vectors, validate, verifiesBordered}
-use Rattle.family.specs.Readings.{listOf}
-use Rattle.reduction.specs.Residue.{basis, form}
+use Rattle.bordered.specs.Checks.{verifiesBordered, borderedList}
+use Rattle.family.specs.declared.Construction.the-variants.{Made}
 use Rattle.symplectic.proofs.Arrays.{qubits-le, matrix-length}
-use Rattle.symplectic.specs.Actions.{qubits, matrix}
+use Rattle.symplectic.specs.Actions.{mostRows, qubits, matrix}
+use Rattle.symplectic.specs.Picks.{when}
 use Rattle.blocks.proofs.Values.{unmapped}
-use Rattle.blocks.specs.Matrices.{times, matmul}
+use Rattle.blocks.specs.Matrices.{matmul}
 use Rattle.blocks.specs.Blocks.{rowsOf}
 use borrow.Author.Tests.{not-true, not-false}
 use lib.ListN.{length}
-use Prim.Native.Nat.{ℕ}
-use mathlib.Core.List.{List, map}
-use mathlib.Core.Bool.{true, false}
-use mathlib.Core.Path.{_≡_, refl, sym, ap, ap₂, _∙_}
+use Prim.Native.Nat.{ℕ, _+_}
+use mathlib.Core.List.{List}
+use mathlib.Core.Bool.{Bool, true, false, _&&_}
+use mathlib.Core.Path.{_≡_, refl, sym, _∙_}
 use borrow.Author.Needs.{needs}
 use Rattle.bordered.proofs.bordered_list.Statement.{statement}
 use Rattle.bordered.proofs.bordered_list.Tie as tie
 
-long : (c : tie.Start) → length (c .args .a .rows) ≡ 64
-long c = search (needs, unmapped)
+size : (c : tie.Start) → length (matrix (c .args .a)) ≡ qubits (c .args .a) + qubits (c .args .a)
+size c = let long : length (c .args .a .rows) ≡ mostRows = search (needs, unmapped) in matrix-length (c .args .a) long
+
+residue-core-requires : tie.Need-residue-core-requires
+residue-core-requires c κs = search needs
 
 bordered-family-requires : tie.Need-bordered-family-requires
 bordered-family-requires c κs = search needs
 
-failed-requires : tie.Need-failed-requires
-failed-requires c κs = search needs
+enum-told : tie.Need-enum-told
+enum-told c = search needs
+
+rejected-requires : tie.Need-rejected-requires
+rejected-requires c κs = search needs
 
 returns : tie.Need-returns
 returns c =
-    let s = c .before .before .before .before .args in
-    let n = qubits (s .a) in
-    let F = matrix (s .a) in
-    let f = c .before .before .before .bordered-family in
-    let size = matrix-length (s .a) (long (c .before .before .before .before)) in
-    λ hb hc. c .failed .ensures ∙ unlisted n F size (qubits-le (s .a)) (s .core) hc (f .result) (f .ensures) (not-true (f .result .made) (c .before .if1 .taken))
+    let s = c .before .before .before in
+    let start = s .before .before .before .before in
+    let a = start .args .a in
+    let v = s .before .before .before .residue-core in
+    let f = s .bordered-family in
+    c .rejected .ensures
+    ∙ unlisted (qubits a) (matrix a) (size start) (qubits-le a) (v .result .basis) (v .result .core) (v .ensures .0) (v .ensures .1) (f .result) (f .ensures)
+    (search (needs, c .before .enum-told .given))
+
+enum-told-2 : tie.Need-enum-told-2
+enum-told-2 c = search needs
 
 length-of-requires : tie.Need-length-of-requires
 length-of-requires c κs = search needs
@@ -45,21 +55,31 @@ length-of-requires c κs = search needs
 validate-requires : tie.Need-validate-requires
 validate-requires c κs = search needs
 
-failed-requires-2 : tie.Need-failed-requires-2
-failed-requires-2 c κs = search needs
+-- the list vs, by what the two checks say
+checked : (c : tie.After-validate) (vs : List ℕ)
+    → vs ≡ matmul (rowsOf (c .before .before .before .before .bordered-family .result .vectors)) (rowsOf (c .before .before .before .before .before .before .before .residue-core .result .basis))
+    → (s t : Bool) → c .validate .result ≡ s
+    → t ≡ verifiesBordered (qubits (c .before .before .before .before .before .before .before .before .args .a)) (matrix (c .before .before .before .before .before .before .before .before .args .a)) (c .before .length-of .result) vs
+    → when (s && t) vs ≡ borderedList (qubits (c .before .before .before .before .before .before .before .before .args .a)) (matrix (c .before .before .before .before .before .before .before .before .args .a))
+checked c vs is s t valid verified =
+    let start = c .before .before .before .before .before .before .before .before in
+    let a = start .args .a in
+    let v = c .before .before .before .before .before .before .before .residue-core in
+    let f = c .before .before .before .before .bordered-family in
+    let made : f .result .construction ≡ Made = search (needs, c .before .before .enum-told2 .given) in
+    listed-by (qubits a) (matrix a) (size start) (qubits-le a) (v .result .basis) (v .result .core) (v .ensures .0) (v .ensures .1) (f .result) (f .ensures) made
+    (c .before .length-of .result) (c .before .length-of .ensures) vs is s t (sym valid ∙ c .validate .ensures) verified
+
+rejected-requires-2 : tie.Need-rejected-requires-2
+rejected-requires-2 c κs = search needs
 
 returns-2 : tie.Need-returns-2
 returns-2 c =
-    let s = c .before .before .before .before .before .before .before .args in
-    let n = qubits (s .a) in
-    let F = matrix (s .a) in
-    let f = c .before .before .before .before .before .before .bordered-family in
-    let size = matrix-length (s .a) (long (c .before .before .before .before .before .before .before)) in
-    λ hb hc.
-    let vs = map (λ p. times p (basis n F)) (vectors (listOf (f .result))) in
-    c .failed2 .ensures
-    ∙ listed-by n F size (qubits-le (s .a)) (s .core) hc (f .result) (f .ensures) (not-false (f .result .made) (c .before .before .before .before .if1 .left)) vs refl false (verifiesBordered n F (length (basis n F)) vs)
-    (sym (not-true (c .before .before .validate .result) (c .before .if2 .taken)) ∙ c .before .before .validate .ensures ∙ ap₂ (λ (r : ℕ) (E : List ℕ). validate r (form E) (listOf (f .result))) (c .before .before .before .length-of .ensures ∙ ap (λ (l : List ℕ). length l) hb) hc) refl
+    let s = c .before .before in
+    let a = s .before .before .before .before .before .before .before .before .args .a in
+    let vs = matmul (rowsOf (s .before .before .before .before .bordered-family .result .vectors)) (rowsOf (s .before .before .before .before .before .before .before .residue-core .result .basis)) in
+    c .rejected2 .ensures
+    ∙ checked s vs refl false (verifiesBordered (qubits a) (matrix a) (s .before .length-of .result) vs) (not-true (s .validate .result) (c .before .if1 .taken)) refl
 
 product-requires : tie.Need-product-requires
 product-requires c κs = search needs
@@ -67,49 +87,43 @@ product-requires c κs = search needs
 verifies-bordered-decomposition-requires : tie.Need-verifies-bordered-decomposition-requires
 verifies-bordered-decomposition-requires c κs = search needs
 
-failed-requires-3 : tie.Need-failed-requires-3
-failed-requires-3 c κs = search needs
+-- a valid family, by what the second check says
+verified : (c : tie.After-verifies-bordered-decomposition) (t : Bool) → c .verifies-bordered-decomposition .result ≡ t
+    → when t (rowsOf (c .before .product .result))
+    ≡ borderedList (qubits (c .before .before .before .before .before .before .before .before .before .before .before .args .a)) (matrix (c .before .before .before .before .before .before .before .before .before .before .before .args .a))
+verified c t e =
+    let s = c .before .before .before in
+    let p = c .before .product in
+    checked s (rowsOf (p .result)) (p .ensures) true t (not-false (s .validate .result) (c .before .before .if1 .left)) (sym e ∙ c .verifies-bordered-decomposition .ensures)
+
+rejected-requires-3 : tie.Need-rejected-requires-3
+rejected-requires-3 c κs = search needs
 
 returns-3 : tie.Need-returns-3
-unfolding matmul
 returns-3 c =
-    let s = c .before .before .before .before .before .before .before .before .before .before .args in
-    let n = qubits (s .a) in
-    let F = matrix (s .a) in
-    let f = c .before .before .before .before .before .before .before .before .before .bordered-family in
-    let size = matrix-length (s .a) (long (c .before .before .before .before .before .before .before .before .before .before)) in
-    λ hb hc.
-    c .failed3 .ensures
-    ∙ listed-by n F size (qubits-le (s .a)) (s .core) hc (f .result) (f .ensures) (not-false (f .result .made) (c .before .before .before .before .before .before .before .if1 .left)) (rowsOf (c .before .before .before .product .result)) (c .before .before .before .product .ensures ∙ ap₂ matmul (sym (listed-vectors (f .result))) hb) true false
-    (sym (not-false (c .before .before .before .before .before .validate .result) (c .before .before .before .before .if2 .left)) ∙ c .before .before .before .before .before .validate .ensures ∙ ap₂ (λ (r : ℕ) (E : List ℕ). validate r (form E) (listOf (f .result))) (c .before .before .before .before .before .before .length-of .ensures ∙ ap (λ (l : List ℕ). length l) hb) hc)
-    (sym (not-true (c .before .before .verifies-bordered-decomposition .result) (c .before .if3 .taken)) ∙ c .before .before .verifies-bordered-decomposition .ensures ∙ ap (λ (r : ℕ). verifiesBordered n F r (rowsOf (c .before .before .before .product .result))) (c .before .before .before .before .before .before .length-of .ensures ∙ ap (λ (l : List ℕ). length l) hb))
+    let s = c .before .before in
+    c .rejected3 .ensures ∙ verified s false (not-true (s .verifies-bordered-decomposition .result) (c .before .if2 .taken))
 
 returns-4 : tie.Need-returns-4
-unfolding matmul listedOf
-returns-4 c =
-    let s = c .before .before .before .before .before .before .before .before .before .args in
-    let n = qubits (s .a) in
-    let F = matrix (s .a) in
-    let f = c .before .before .before .before .before .before .before .before .bordered-family in
-    let size = matrix-length (s .a) (long (c .before .before .before .before .before .before .before .before .before)) in
-    λ hb hc.
-    listed-by n F size (qubits-le (s .a)) (s .core) hc (f .result) (f .ensures) (not-false (f .result .made) (c .before .before .before .before .before .before .if1 .left)) (rowsOf (c .before .before .product .result)) (c .before .before .product .ensures ∙ ap₂ matmul (sym (listed-vectors (f .result))) hb) true true
-    (sym (not-false (c .before .before .before .before .validate .result) (c .before .before .before .if2 .left)) ∙ c .before .before .before .before .validate .ensures ∙ ap₂ (λ (r : ℕ) (E : List ℕ). validate r (form E) (listOf (f .result))) (c .before .before .before .before .before .length-of .ensures ∙ ap (λ (l : List ℕ). length l) hb) hc)
-    (sym (not-false (c .before .verifies-bordered-decomposition .result) (c .if3 .left)) ∙ c .before .verifies-bordered-decomposition .ensures ∙ ap (λ (r : ℕ). verifiesBordered n F r (rowsOf (c .before .before .product .result))) (c .before .before .before .before .before .length-of .ensures ∙ ap (λ (l : List ℕ). length l) hb))
+unfolding listedOf
+returns-4 c = verified (c .before) true (not-false (c .before .verifies-bordered-decomposition .result) (c .if2 .left))
 
 pub bordered-list-spec : {M : Type 1} → statement M
 bordered-list-spec =
     tie.close
     (tie.spec
+    residue-core-requires
     bordered-family-requires
-    failed-requires
+    enum-told
+    rejected-requires
     returns
+    enum-told-2
     length-of-requires
     validate-requires
-    failed-requires-2
+    rejected-requires-2
     returns-2
     product-requires
     verifies-bordered-decomposition-requires
-    failed-requires-3
+    rejected-requires-3
     returns-3
     returns-4)

@@ -1,7 +1,6 @@
 -- `symplectic_simplex`, which calls itself on the remainder of a pair, two members shorter, by the laws of Simplices.
 -- Assumes nothing.
 use mathlib.Core.Path.{_≡_, sym, ap, ap₂, _∙_}
-use mathlib.Core.Bool.{Bool}
 use mathlib.Core.List.{List, [], _∷_, _++_, map}
 use mathlib.Core.Option.{some}
 use mathlib.Core.Logic.{⊎-elim}
@@ -10,19 +9,22 @@ use native.Mathlib.Omega.{arith}
 use Prim.Native.Nat.{ℕ, _-_, _≤_, _<_}
 use lib.ListN.{length, getD, take, length-map}
 use borrow.Author.Needs.{needs}
-use borrow.Author.Tests.{not-true, not-false}
 use Rattle.binar.specs.Bits.{_⊕_}
-use Rattle.binar.specs.Rows.{val, blank}
+use Rattle.binar.specs.Rows.{width, val}
+use Rattle.binar.specs.inner.Blank.{blank}
 use Rattle.blocks.specs.Blocks.{room, rowsOf}
 use Rattle.blocks.specs.Matrices.{matmul}
 use Rattle.blocks.proofs.Values.{push-fits, unmapped}
-use Rattle.symplectic.specs.Picks.{when, mapSome}
+use Rattle.symplectic.specs.Picks.{mapSome}
 use Rattle.reduction.specs.Residue.{form}
 use Rattle.triangular.specs.declared.Space.{Space}
 use Rattle.triangular.specs.Readings.{basisOf, formsOf}
 use Rattle.triangular.proofs.Cores.{basis-length}
 use Rattle.family.specs.Family.{extended as extendedOf, symplecticSimplex}
-use Rattle.family.specs.Readings.{simplexOf}
+use Rattle.family.specs.declared.Construction.{Construction}
+use Rattle.family.specs.declared.Construction.the-variants.{Made, Stuck}
+use Rattle.family.specs.Readings.{ifMade}
+use Rattle.family.specs.inner.Parts.{simplexOf}
 use Rattle.family.proofs.Members.{member-is}
 use Rattle.family.proofs.Simplices.{simplex-empty, simplex-alone, simplex-pair}
 use borrow.Fn.Kinds.{In}
@@ -36,7 +38,6 @@ use Rattle.blocks.proofs.push.Reads as push-reads
 use Rattle.family.proofs.extended.Reads as extended-reads
 use Rattle.family.proofs.pair_rest.Reads as pair-rest-reads
 use Rattle.family.proofs.partner.Reads as partner-reads
-use Rattle.family.proofs.unmade.Reads as unmade-reads
 use Rattle.family.proofs.+symplectic_simplex.{statement}
 use Rattle.family.proofs.+symplectic_simplex.Tie.{close}
 
@@ -62,8 +63,6 @@ claims t = (
   push-reads.Learnt,
   partner-reads.Asked,
   partner-reads.Learnt,
-  unmade-reads.Asked,
-  unmade-reads.Learnt,
   pair-rest-reads.Asked,
   pair-rest-reads.Learnt,
   below t,
@@ -75,7 +74,7 @@ claims t = (
 size : (t : ℕ) (c : lts.Start (claims t) (given t) symplectic-simplex.Post) → length (basisOf (c .args .t1)) ≡ c .args .t1 .count
 size t c = basis-length (c .args .t1) (omega (arith, long c, c .pre .1))
   where
-    long : (c : lts.Start (claims t) (given t) symplectic-simplex.Post) → length (c .args .t1 .basis) ≡ 64
+    long : (c : lts.Start (claims t) (given t) symplectic-simplex.Post) → length (c .args .t1 .basis) ≡ width
     long c = search (needs, unmapped)
 
 beside : (j k : ℕ) → j ≤ k → (j ≡ k → ⊥) → j < k
@@ -125,17 +124,18 @@ simplex-returns t c =
 simplex-partner-requires : (t : ℕ) → lts.Need-partner-requires (claims t) (given t) symplectic-simplex.Post
 simplex-partner-requires t c κs = (pos-of-ne-zero (c .if1 .left), c .before .pre .1)
 
-simplex-unmade-requires : (t : ℕ) → lts.Need-unmade-requires (claims t) (given t) symplectic-simplex.Post
-simplex-unmade-requires t c κs = search needs
+simplex-empty-requires-2 : (t : ℕ) → lts.Need-empty-requires-2 (claims t) (given t) symplectic-simplex.Post
+simplex-empty-requires-2 t c κs = search needs
 
 simplex-returns-2 : (t : ℕ) → lts.Need-returns-2 (claims t) (given t) symplectic-simplex.Post
+unfolding simplexOf
 simplex-returns-2 t c =
     let s = c .before .before .before .before .args .t1 in
     let long = size t (c .before .before .before .before) in
     let p = c .before .before .partner .ensures in
     let pos = pos-of-ne-zero (c .before .before .before .if1 .left) in (
-      omega (arith, c .unmade .ensures .1),
-      λ E d h fit. c .unmade .ensures .0 ∙ sym (simplex-alone (form E) d (basisOf s) (omega arith) (λ i a l. p .2 E fit .0 i a (omega (arith, c .before .if2 .taken)))),
+      omega (arith, ap (λ (l : List ℕ). length l) (c .empty2 .ensures)),
+      λ E d h fit. sym (simplex-alone (form E) d (basisOf s) (omega arith) (λ i a l. p .2 E fit .0 i a (omega (arith, c .before .if2 .taken)))),
     )
 
 simplex-pair-rest-requires : (t : ℕ) → lts.Need-pair-rest-requires (claims t) (given t) symplectic-simplex.Post
@@ -149,52 +149,74 @@ simplex-symplectic-simplex-requires t c κs =
     let h = c .before .before .before .before .pre .1 in
     search needs
 
-simplex-unmade-requires-2 : (t : ℕ) → lts.Need-unmade-requires-2 (claims t) (given t) symplectic-simplex.Post
-simplex-unmade-requires-2 t c κs = search needs
+simplex-enum-told : (t : ℕ) → lts.Need-enum-told (claims t) (given t) symplectic-simplex.Post
+simplex-enum-told t c = search needs
 
-simplex-returns-3 : (t : ℕ) → lts.Need-returns-3 (claims t) (given t) symplectic-simplex.Post
-unfolding simplexOf
-simplex-returns-3 t c =
-    let o = c .before .before .before .symplectic-simplex .result in (
-      omega (arith, c .unmade2 .ensures .1),
-      λ E d h fit. c .unmade2 .ensures .0
-          ∙ sym (step t (c .before .before .before) E d h fit ∙ ap (λ (b : Bool). mapSome (extendedOf (form E) (first (c .before .before .before .before .before .before .before .before .args .t1)) (at (c .before .before .before .before .before .before .before .before .args .t1) (c .before .before .before .before .before .before .partner .result))) (when b (rowsOf (o .vectors)))) (not-true (o .made) (c .before .if3 .taken))),
-    )
+-- the partner stands among the members
+inside : (t : ℕ) (c : lts.After-symplectic-simplex (claims t) (given t) symplectic-simplex.Post)
+    → c .before .before .before .partner .result < c .before .before .before .before .before .args .t1 .count
+inside t c =
+    let p = c .before .before .before .partner in
+    beside (p .result) (c .before .before .before .before .before .args .t1 .count) (p .ensures .1) (c .before .before .if2 .left)
 
 simplex-element-copy-out-extended : (t : ℕ) → lts.Need-element-copy-out-extended (claims t) (given t) symplectic-simplex.Post
 simplex-element-copy-out-extended t c = search needs
 
 simplex-mul-extended : (t : ℕ) → lts.Need-mul-extended (claims t) (given t) symplectic-simplex.Post
-simplex-mul-extended t c = omega (arith, c .before .before .before .before .before .before .before .before .pre .1, c .before .before .before .before .before .before .partner .ensures .1, beside (c .before .before .before .before .before .before .partner .result) (c .before .before .before .before .before .before .before .before .args .t1 .count) (c .before .before .before .before .before .before .partner .ensures .1) (c .before .before .before .before .before .if2 .left))
+simplex-mul-extended t c = omega (arith, inside t (c .before .before .before), c .before .before .before .before .before .before .before .before .pre .1)
 
 simplex-element-copy-out-extended-2 : (t : ℕ) → lts.Need-element-copy-out-extended-2 (claims t) (given t) symplectic-simplex.Post
-simplex-element-copy-out-extended-2 t c = omega (arith, c .before .before .before .before .before .before .before .before .pre .1, c .before .before .before .before .before .before .partner .ensures .1, beside (c .before .before .before .before .before .before .partner .result) (c .before .before .before .before .before .before .before .before .args .t1 .count) (c .before .before .before .before .before .before .partner .ensures .1) (c .before .before .before .before .before .if2 .left))
+simplex-element-copy-out-extended-2 t c = omega (arith, inside t (c .before .before .before), c .before .before .before .before .before .before .before .before .pre .1)
 
 simplex-extended-requires : (t : ℕ) → lts.Need-extended-requires (claims t) (given t) symplectic-simplex.Post
 simplex-extended-requires t c κs =
-    let e = c .before .before .before .before .before .pair-rest .ensures .0 in
-    let l = c .before .before .before .before .symplectic-simplex .ensures .0 in
-    let h = c .before .before .before .before .before .before .before .before .before .pre .1 in
-    let j = c .before .before .before .before .before .before .before .partner .ensures .0 in
-    let k = beside (c .before .before .before .before .before .before .before .partner .result) (c .before .before .before .before .before .before .before .before .before .args .t1 .count) (c .before .before .before .before .before .before .before .partner .ensures .1) (c .before .before .before .before .before .before .if2 .left) in
+    let r = c .before .before .before .before in
+    let e = r .before .pair-rest .ensures .0 in
+    let l = r .symplectic-simplex .ensures .0 in
+    let h = r .before .before .before .before .before .pre .1 in
+    let j = r .before .before .before .partner .ensures .0 in
+    let k = inside t r in
     omega arith
+
+simplex-enum-told-2 : (t : ℕ) → lts.Need-enum-told-2 (claims t) (given t) symplectic-simplex.Post
+simplex-enum-told-2 t c = search needs
+
+simplex-returns-3 : (t : ℕ) → lts.Need-returns-3 (claims t) (given t) symplectic-simplex.Post
+unfolding simplexOf
+simplex-returns-3 t c =
+    let r = c .before .before .before .before .before in
+    let s = r .before .before .before .before .before .args .t1 in
+    let j = r .before .before .before .partner .result in
+    let o = r .symplectic-simplex .result in
+    let vs = rowsOf (o .vectors) in
+    let k = inside t r in
+    let low = r .before .before .before .partner .ensures .0 in
+    let e = r .before .pair-rest .ensures .0 in
+    let l = r .symplectic-simplex .ensures .0 in
+    let f = val (getD (s .basis) 0 blank) in
+    let is : o .construction ≡ Made = search (needs, c .before .before .before .enum-told .given) in (
+      omega (arith, ap (λ (m : List ℕ). length m) (c .extended .ensures), length-map vs (λ v. v ⊕ f)),
+      λ E d h fit.
+          ap some (c .extended .ensures ∙ ap₂ (λ (x y : ℕ). y ∷ (x ⊕ y) ∷ map (λ v. v ⊕ x) vs) (member-is s 0 (omega arith)) (member-is s j k))
+          ∙ sym (step t r E d h fit ∙ ap (λ (m : Construction). mapSome (extendedOf (form E) (first s) (at s j)) (ifMade m vs)) is),
+    )
 
 simplex-returns-4 : (t : ℕ) → lts.Need-returns-4 (claims t) (given t) symplectic-simplex.Post
 unfolding simplexOf
 simplex-returns-4 t c =
-    let s = c .before .before .before .before .before .before .before .before .before .before .args .t1 in
-    let j = c .before .before .before .before .before .before .before .before .partner .result in
-    let o = c .before .before .before .before .before .symplectic-simplex .result in
+    let r = c .before .before in
+    let s = r .before .before .before .before .before .args .t1 in
+    let j = r .before .before .before .partner .result in
+    let o = r .symplectic-simplex .result in
     let vs = rowsOf (o .vectors) in
-    let k = beside j (s .count) (c .before .before .before .before .before .before .before .before .partner .ensures .1) (c .before .before .before .before .before .before .before .if2 .left) in
-    let low = c .before .before .before .before .before .before .before .before .partner .ensures .0 in
-    let e = c .before .before .before .before .before .before .pair-rest .ensures .0 in
-    let l = c .before .before .before .before .before .symplectic-simplex .ensures .0 in
-    let f = val (getD (s .basis) 0 blank) in (
-      omega (arith, ap (λ (m : List ℕ). length m) (c .extended .ensures), length-map vs (λ v. v ⊕ f)),
+    let e = r .before .pair-rest .ensures .0 in
+    let l = r .symplectic-simplex .ensures .0 in
+    let k = inside t r in
+    let is : o .construction ≡ Stuck = search (needs, c .enum-told2 .given) in (
+      omega arith,
       λ E d h fit.
-          ap some (c .extended .ensures ∙ ap₂ (λ (x y : ℕ). y ∷ (x ⊕ y) ∷ map (λ v. v ⊕ x) vs) (member-is s 0 (omega arith)) (member-is s j k))
-          ∙ sym (step t (c .before .before .before .before .before) E d h fit ∙ ap (λ (b : Bool). mapSome (extendedOf (form E) (first s) (at s j)) (when b vs)) (not-false (o .made) (c .before .before .before .if3 .left))),
+          ap (λ (m : Construction). ifMade m vs) is
+          ∙ sym (step t r E d h fit ∙ ap (λ (m : Construction). mapSome (extendedOf (form E) (first s) (at s j)) (ifMade m vs)) is),
     )
 
 pub +symplectic-simplex-spec : {M : Type 1} → statement M
@@ -206,14 +228,15 @@ pub +symplectic-simplex-spec : {M : Type 1} → statement M
     (simplex-push-requires t)
     (simplex-returns t)
     (simplex-partner-requires t)
-    (simplex-unmade-requires t)
+    (simplex-empty-requires-2 t)
     (simplex-returns-2 t)
     (simplex-pair-rest-requires t)
     (simplex-symplectic-simplex-requires t)
-    (simplex-unmade-requires-2 t)
-    (simplex-returns-3 t)
+    (simplex-enum-told t)
     (simplex-element-copy-out-extended t)
     (simplex-mul-extended t)
     (simplex-element-copy-out-extended-2 t)
     (simplex-extended-requires t)
+    (simplex-enum-told-2 t)
+    (simplex-returns-3 t)
     (simplex-returns-4 t)

@@ -1,12 +1,12 @@
 -- `extended` writes the pair, and behind it the remainder's vectors, by `behind-at`.
 -- Assumes nothing.
-use Rattle.family.proofs.Sent.{behind-length, behind-at, two-written}
-use Rattle.blocks.proofs.Values.{rows-get, write-next, write-end, unmapped}
-use Rattle.blocks.specs.Blocks.{vals, rowsOf}
+use Rattle.family.proofs.Behind.{behind-at, two-written}
+use Rattle.blocks.proofs.Values.{rows-are, rows-get, write-next, write-end, map-get, unmapped}
+use Rattle.blocks.specs.Blocks.{room, vals, rowsOf}
 use Rattle.binar.specs.Rows.{val}
 use Rattle.binar.specs.Bits.{_⊕_}
 use lib.Seq.{take-at}
-use lib.ListN.{length, set, take, length-set}
+use lib.ListN.{length, set, take, length-set, length-append, length-map}
 use Prim.Native.Nat.{ℕ, _+_, _-_, _≤_, _<_}
 use mathlib.Core.List.{List, [], _∷_, _++_, map}
 use mathlib.Core.Path.{_≡_, sym, ap, _∙_}
@@ -17,7 +17,7 @@ use Rattle.family.proofs.extended.Tie as tie
 
 abbrev Inv-loop : tie.InvT-loop
 Inv-loop f b last n₀ i₀ n i =
-    (2 ≤ i) × (i ≤ last) × (last ≤ 65) × (length (n .rows) ≡ 65)
+    (2 ≤ i) × (i ≤ last) × (last ≤ room) × (length (n .rows) ≡ room)
     × (take i (vals (n .rows)) ≡ take i (take 2 (vals (n₀ .rows)) ++ map (λ v. v ⊕ val f) (rowsOf b)))
 
 abbrev μ-loop : tie.MeasureT-loop
@@ -45,7 +45,7 @@ loop-holds : tie.Need-loop-holds Inv-loop μ-loop
 loop-holds c =
     let s = c .before .before .before .args in
     let n = c .empty .result .rows in
-    let long : length n ≡ 65 = search (needs, unmapped) in
+    let long : length n ≡ room = search (needs, unmapped) in
     let two = two-written n (s .p) (c .before .sum .result) (omega (arith, long)) in (
       search needs,
       search needs,
@@ -83,7 +83,7 @@ loop-again c =
     let s = c .before .before .before .before .before .before .before .args in
     let at = c .before .before .before .loop in
     let n = c .before .before .before .before .empty .result .rows in
-    let long : length n ≡ 65 = search (needs, unmapped) in
+    let long : length n ≡ room = search (needs, unmapped) in
     let front = take 2 (vals (set (set n 0 (s .p)) 1 (c .before .before .before .before .before .sum .result))) in
     let two : length front ≡ 2 = ap (λ (l : List ℕ). length l) (two-written n (s .p) (c .before .before .before .before .before .sum .result) (omega (arith, long))) in
     let b = s .t3 in
@@ -95,23 +95,21 @@ loop-again c =
       at .inv .2,
       simp length-set (at .inv .3),
       write-next (front ++ map g (rowsOf b)) (at .n .rows) (at .i) (c .sum2 .result)
-          (omega (arith, behind-length front (rowsOf b) g, two, k)) (omega (arith, at .inv .3, at .inv .2)) (at .inv .4)
-          (c .sum2 .ensures ∙ ap g (rows-get b (at .i - 2) h) ∙ sym (behind-at front (rowsOf b) g 2 (at .i) two (at .inv .0) (omega (arith, k)))),
+          (omega (arith, length-append front (map g (rowsOf b)), length-map (rowsOf b) g, two, k)) (omega (arith, at .inv .3, at .inv .2)) (at .inv .4)
+          (c .sum2 .ensures ∙ ap g (rows-get b (at .i - 2) h) ∙ sym (behind-at front (map g (rowsOf b)) 2 (at .i) two (at .inv .0) ∙ map-get g (rowsOf b) (at .i - 2) 0 0 h)),
     )
 
 returns : tie.Need-returns Inv-loop μ-loop
-unfolding rowsOf
 returns c =
     let s = c .before .before .before .before .before .args in
     let at = c .before .loop in
     let n = c .before .before .empty .result .rows in
-    let long : length n ≡ 65 = search (needs, unmapped) in
+    let long : length n ≡ room = search (needs, unmapped) in
     let front = take 2 (vals (set (set n 0 (s .p)) 1 (c .before .before .before .sum .result))) in
     let two : front ≡ val (s .p) ∷ val (c .before .before .before .sum .result) ∷ [] = two-written n (s .p) (c .before .before .before .sum .result) (omega (arith, long)) in
     let rest = map (λ v. v ⊕ val (s .f)) (rowsOf (s .t3)) in
-    let size = behind-length front (rowsOf (s .t3)) (λ v. v ⊕ val (s .f)) in
-    write-end (front ++ rest) (at .n .rows) (at .i) (c .before .before .before .before .length-of .result + 2) (omega arith)
-    (omega (arith, size, ap (λ (l : List ℕ). length l) two, c .before .before .before .before .length-of .ensures)) (at .inv .4)
+    rows-are _ ∙ write-end (front ++ rest) (at .n .rows) (at .i) (c .before .before .before .before .length-of .result + 2) (omega arith)
+    (omega (arith, length-append front rest, length-map (rowsOf (s .t3)) (λ v. v ⊕ val (s .f)), ap (λ (l : List ℕ). length l) two, c .before .before .before .before .length-of .ensures)) (at .inv .4)
     ∙ ap (λ (l : List ℕ). l ++ rest) two ∙ ap (λ (v : ℕ). val (s .p) ∷ v ∷ rest) (c .before .before .before .sum .ensures)
 
 pub extended-spec : {M : Type 1} → statement M

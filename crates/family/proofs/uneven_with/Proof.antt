@@ -1,21 +1,20 @@
 -- `uneven_with` passes the members that are even with member i, by `unevenWith-skip`.
 -- Assumes nothing.
-use Rattle.family.proofs.Members.{differ, member-is, member-row}
-use Rattle.family.specs.Readings.{memberOf}
+use Rattle.family.proofs.Members.{differ, member-is, row-is, sum-picked}
+use Rattle.family.specs.inner.Parts.{besideRow}
 use Rattle.symplectic.proofs.FirstPicks.{unevenWith-skip, unevenWith-here, unevenWith-end}
-use Rattle.symplectic.specs.Picks.{unevenWith}
-use Rattle.blocks.proofs.Products.{times-sum}
+use Rattle.symplectic.specs.Picks.{mapSome, unevenWith}
 use Rattle.triangular.proofs.Cores.{basis-length, space-form}
 use Rattle.triangular.specs.Readings.{basisOf, formsOf}
 use Rattle.reduction.specs.Residue.{form}
 use Rattle.blocks.proofs.Values.{unmapped}
-use Rattle.blocks.specs.Matrices.{times, matmul}
-use Rattle.binar.specs.Rows.{val, blank}
+use Rattle.blocks.specs.Matrices.{matmul}
+use Rattle.binar.specs.Rows.{width, val}
+use Rattle.binar.specs.inner.Blank.{blank}
 use Rattle.binar.specs.Bits.{_⊻_, _⊕_}
 use lib.ListN.{length, getD, drop}
 use Prim.Native.Nat.{ℕ, _+_, _-_, _≤_, _<_}
 use mathlib.Core.List.{List}
-use mathlib.Core.Option.{some}
 use mathlib.Core.Path.{_≡_, refl, sym, ap, ap₂, _∙_}
 use native.Mathlib.Omega.{arith}
 use borrow.Author.Needs.{needs}
@@ -31,7 +30,7 @@ abbrev μ-loop : tie.MeasureT-loop
 size : (c : tie.Start Inv-loop μ-loop) → length (basisOf (c .args .t1)) ≡ c .args .t1 .count
 size c = basis-length (c .args .t1) (omega (arith, long c, c .pre .1))
   where
-    long : (c : tie.Start Inv-loop μ-loop) → length (c .args .t1 .basis) ≡ 64
+    long : (c : tie.Start Inv-loop μ-loop) → length (c .args .t1 .basis) ≡ width
     long c = search (needs, unmapped)
 
 mul-b : tie.Need-mul-b Inv-loop μ-loop
@@ -77,7 +76,6 @@ sum-requires-2 : tie.Need-sum-requires-2 Inv-loop μ-loop
 sum-requires-2 c κs = search needs
 
 returns : tie.Need-returns Inv-loop μ-loop
-unfolding memberOf
 returns c =
     let s = c .before .before .before .before .before .before .before .before .before .before .before .args .t1 in
     let i = c .before .before .before .before .before .before .before .before .before .before .before .args .i in
@@ -85,12 +83,16 @@ returns c =
     let h : at .j < s .count = omega arith in
     let hi : i < s .count = c .before .before .before .before .before .before .before .before .before .before .before .pre .0 in
     let inside : at .j < length (basisOf s) = omega (arith, size (c .before .before .before .before .before .before .before .before .before .before .before)) in
-    λ E fit. (
-      ap some (c .before .sum .ensures ∙ ap₂ _⊕_ (member-is s i hi) (member-is s (at .j) h))
-          ∙ sym (unevenWith-here _⊕_ (form E) (basisOf s) 0 (getD (basisOf s) i 0) (at .j) inside (ap₂ _⊻_ (space-form s E fit i (at .j) hi h (c .before .before .before .before .dot .result) (c .before .before .before .before .dot .ensures)) (space-form s E fit (at .j) i h hi (c .before .before .before .dot2 .result) (c .before .before .before .dot2 .ensures)) ∙ sym (differ (c .before .before .before .before .dot .result) (c .before .before .before .dot2 .result)) ∙ c .before .before .if1 .taken)) ∙ at .inv .2 E fit,
-      c .sum2 .ensures ∙ ap₂ _⊕_ (member-row s i hi E fit) (member-row s (at .j) h E fit)
-          ∙ sym (ap (λ (v : ℕ). times v E) (c .before .sum .ensures) ∙ times-sum E (val (getD (s .basis) i blank)) (val (getD (s .basis) (at .j) blank))),
-    )
+    let x = getD (basisOf s) i 0 in
+    let y = getD (basisOf s) (at .j) 0 in
+    let d = c .before .before .before .before .dot in
+    let e = c .before .before .before .dot2 in
+    λ E fit. sum-picked E (val (c .before .sum .result)) (val (c .sum2 .result)) x y (val (getD (s .forms) i blank)) (val (getD (s .forms) (at .j) blank))
+    (unevenWith _⊕_ (form E) x (drop (i + 1) (basisOf s)))
+    (c .before .sum .ensures ∙ ap₂ _⊕_ (member-is s i hi) (member-is s (at .j) h)) (c .sum2 .ensures) (row-is s i hi E fit) (row-is s (at .j) h E fit)
+    (sym (at .inv .2 E fit)
+    ∙ unevenWith-here _⊕_ (form E) (basisOf s) 0 x (at .j) inside
+    (ap₂ _⊻_ (space-form s E fit i (at .j) hi h (d .result) (d .ensures)) (space-form s E fit (at .j) i h hi (e .result) (e .ensures)) ∙ sym (differ (d .result) (e .result)) ∙ c .before .before .if1 .taken))
 
 add-j-2 : tie.Need-add-j-2 Inv-loop μ-loop
 add-j-2 c = search needs
@@ -111,16 +113,13 @@ loop-again c =
       λ E fit. sym (unevenWith-skip _⊕_ (form E) (basisOf s) 0 (getD (basisOf s) i 0) (at .j) inside (ap₂ _⊻_ (space-form s E fit i (at .j) hi h (c .before .before .dot .result) (c .before .before .dot .ensures)) (space-form s E fit (at .j) i h hi (c .before .dot2 .result) (c .before .dot2 .ensures)) ∙ sym (differ (c .before .before .dot .result) (c .before .dot2 .result)) ∙ c .if1 .left)) ∙ at .inv .2 E fit,
     )
 
-nothing-requires : tie.Need-nothing-requires Inv-loop μ-loop
-nothing-requires c κs = search needs
-
 returns-2 : tie.Need-returns-2 Inv-loop μ-loop
 returns-2 c =
-    let s = c .before .before .before .before .before .args .t1 in
-    let i = c .before .before .before .before .before .args .i in
-    let at = c .before .before .loop in
-    let past : length (basisOf s) ≤ at .j = omega (arith, size (c .before .before .before .before .before)) in
-    λ E fit. (c .nothing .ensures .0 ∙ sym (unevenWith-end _⊕_ (form E) (basisOf s) 0 (getD (basisOf s) i 0) (at .j) past) ∙ at .inv .2 E fit, c .nothing .ensures .1 E)
+    let s = c .before .before .before .before .args .t1 in
+    let i = c .before .before .before .before .args .i in
+    let at = c .before .loop in
+    let past : length (basisOf s) ≤ at .j = omega (arith, size (c .before .before .before .before)) in
+    λ E fit. ap (mapSome (besideRow E)) (sym (unevenWith-end _⊕_ (form E) (basisOf s) 0 (getD (basisOf s) i 0) (at .j) past) ∙ at .inv .2 E fit)
 
 pub uneven-with-spec : {M : Type 1} → statement M
 uneven-with-spec =
@@ -146,5 +145,4 @@ uneven-with-spec =
     add-j-2
     loop-less
     loop-again
-    nothing-requires
     returns-2)

@@ -34,8 +34,8 @@ module _ (c : tie.After-sheet-line Inv-loop μ-loop) where
   code-at : (j : ℕ) → j < c .sheet-line .result .count → getD (c .sheet-line .result .codes) j 0 ≡ getD (gate (c .before .before .args .g) .turns) j 0
   code-at = turns-at (c .sheet-line .result) (c .before .before .args .g) long (c .sheet-line .ensures .0) (c .sheet-line .ensures .1)
 
-width-requires : tie.Need-width-requires Inv-loop μ-loop
-width-requires c κs = search needs
+qubits-of-requires : tie.Need-qubits-of-requires Inv-loop μ-loop
+qubits-of-requires c κs = search needs
 
 sheet-line-requires : tie.Need-sheet-line-requires Inv-loop μ-loop
 sheet-line-requires c κs = search needs
@@ -43,19 +43,19 @@ sheet-line-requires c κs = search needs
 loop-holds : tie.Need-loop-holds Inv-loop μ-loop
 loop-holds c = (search needs, refl, refl)
 
-mul-vector : tie.Need-mul-vector Inv-loop μ-loop
-mul-vector c = search needs
+mul-turn-vector : tie.Need-mul-turn-vector Inv-loop μ-loop
+mul-turn-vector c = search needs
 
-element-copy-out-vector : tie.Need-element-copy-out-vector Inv-loop μ-loop
-element-copy-out-vector c = search needs
+element-copy-out-turn-vector : tie.Need-element-copy-out-turn-vector Inv-loop μ-loop
+element-copy-out-turn-vector c = search needs
 
-vector-requires : tie.Need-vector-requires Inv-loop μ-loop
-vector-requires c κs =
+turn-vector-requires : tie.Need-turn-vector-requires Inv-loop μ-loop
+turn-vector-requires c κs =
     let start = c .before .before .before .before .before in
     let s = start .args in
     let known = c .before .before .before in
-    let n = c .before .before .before .before .width .result in
-    let e : n ≡ qubits (s .act) = c .before .before .before .before .width .ensures in
+    let n = c .before .before .before .before .qubits-of .result in
+    let e : n ≡ qubits (s .act) = c .before .before .before .before .qubits-of .ensures in
     let second = second-read (s .b < n) (s .g) (λ two. omega (arith, start .pre .1 two, e)) in
     let j = c .before .before .loop .j in
     let there = All·at (Second (s .b < n)) (gate (s .g) .turns) second j 0 (omega (arith, counted known)) in
@@ -75,12 +75,12 @@ loop-again : tie.Need-loop-again Inv-loop μ-loop
 loop-again c =
     let s = c .before .before .before .before .before .before .before .args in
     let known = c .before .before .before .before .before in
-    let n = c .before .before .before .before .before .before .width .result in
-    let e : n ≡ qubits (s .act) = c .before .before .before .before .before .before .width .ensures in
+    let n = c .before .before .before .before .before .before .qubits-of .result in
+    let e : n ≡ qubits (s .act) = c .before .before .before .before .before .before .qubits-of .ensures in
     let at = c .before .before .before .before .loop in
     let f = turnVector n (s .a) (s .b) in
     let turns = gate (s .g) .turns in
-    let v = c .before .vector .ensures ∙ ap f (code-at known (at .j) (search needs)) in
+    let v = c .before .turn-vector .ensures ∙ ap f (code-at known (at .j) (search needs)) in
     let made = c .followed .ensures .1 ∙ ap₂ (λ (k v : ℕ). followed k (matrix (at .after)) v) (at .inv .1 ∙ sym e) v in (
       search needs,
       c .followed .ensures .0 ∙ at .inv .1,
@@ -91,8 +91,8 @@ loop-again c =
 returns : tie.Need-returns Inv-loop μ-loop
 returns c =
     let s = c .before .before .before .before .args in
-    let n = c .before .before .before .width .result in
-    let e : n ≡ qubits (s .act) = c .before .before .before .width .ensures in
+    let n = c .before .before .before .qubits-of .result in
+    let e : n ≡ qubits (s .act) = c .before .before .before .qubits-of .ensures in
     let at = c .before .loop in
     let turns = gate (s .g) .turns in (
       at .inv .1,
@@ -106,12 +106,12 @@ after-gate-spec =
     (tie.spec
     Inv-loop
     μ-loop
-    width-requires
+    qubits-of-requires
     sheet-line-requires
     loop-holds
-    mul-vector
-    element-copy-out-vector
-    vector-requires
+    mul-turn-vector
+    element-copy-out-turn-vector
+    turn-vector-requires
     followed-requires
     add-j
     loop-less

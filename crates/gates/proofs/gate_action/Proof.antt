@@ -1,6 +1,6 @@
 -- `gate_action` refuses by the first question that is answered no, else it lays the product of the turns, gate by gate by `upto-next`.
 -- Assumes nothing.
-use mathlib.Core.Path.{_≡_, refl, sym, ap, _∙_, subst}
+use mathlib.Core.Path.{_≡_, refl, sym, ap, ap₂, _∙_, subst}
 use mathlib.Core.List.{List}
 use Prim.Native.Nat.{ℕ, suc, _+_, _-_, _*_, _≤_, _<_}
 use native.Mathlib.Omega.{arith}
@@ -8,15 +8,15 @@ use lib.ListN.{length, getD}
 use Rattle.blocks.specs.Words.{laid}
 use Rattle.blocks.specs.Matrices.{units}
 use Rattle.symplectic.specs.Actions.{qubits, matrix}
-use Rattle.symplectic.specs.Replies.{toldOf, refused}
 use Rattle.symplectic.proofs.Arrays.{capped-is}
 use Rattle.symplectic.proofs.Answered.{Meets}
-use Rattle.gates.specs.declared.Verdict.{Verdict}
-use Rattle.gates.specs.declared.Verdict.the-variants as verdict
+use Rattle.gates.specs.declared.GateQuestion.{GateQuestion}
+use Rattle.gates.specs.declared.GateQuestion.the-variants as asked
 use Rattle.gates.specs.declared.GateAction.{GateAction}
 use Rattle.gates.specs.declared.GateAction.the-variants.{UnknownGate, QubitTooHigh, EqualQubits}
 use Rattle.gates.specs.Sequences.{gatesReply}
-use Rattle.gates.specs.Answers.{numberOf, told}
+use Rattle.gates.specs.Answers.{figuresOf}
+use Rattle.gates.specs.inner.Readings.{numberOf}
 use Rattle.gates.proofs.Asked.{gate-known, askedAt, Upto, upto-none, upto-all, upto-refused, upto-next}
 use Rattle.gates.proofs.Replied.{Promised, gates-1, gates-2, gate-refused, gates-listed}
 use borrow.Author.Needs.{needs}
@@ -81,18 +81,17 @@ inside c = omega arith
 
 -- what the contract says of an answer that leaves the words as they are
 abbrev Unchanged : tie.After-question Inv-loop μ-loop → GateAction → Type 0
-Unchanged c r = let s = c .before .before .before .before .before .before .before .before .before .before .before .args in Meets (Promised (s .n) (s .bytes .now) (s .out .now)) (gatesReply (s .n) (s .bytes .now) (s .out .now)) (s .out .now) (told r)
+Unchanged c r = let s = c .before .before .before .before .before .before .before .before .before .before .before .args in Meets (Promised (s .n) (s .bytes .now) (s .out .now)) (gatesReply (s .n) (s .bytes .now) (s .out .now)) (s .out .now) (figuresOf r)
 
 -- a refusal of the gate is one of the sequence
-refuses : (c : tie.After-question Inv-loop μ-loop) (k : ℕ) (v : Verdict) (r : GateAction)
-    → c .question .result ≡ v → numberOf v ≡ suc k → told r ≡ record { number = suc k; count = 0; looks = 0 } → Unchanged c r
-unfolding toldOf refused
-refuses c k v r same number tells =
+refuses : (c : tie.After-question Inv-loop μ-loop) (k : ℕ) (v : GateQuestion) (r : GateAction)
+    → c .question .result ≡ v → numberOf v ≡ suc k → figuresOf r ≡ record { number = suc k; count = 0; looks = 0 } → Unchanged c r
+refuses c k v r same tells says =
     let s = c .before .before .before .before .before .before .before .before .before .before .before .args in
     let at = c .before .before .before .before .before .loop in
-    let asked = sym (c .question .ensures) ∙ ap numberOf same ∙ number in
-    gate-refused (s .n) (s .bytes .now) (s .out .now) (search needs) (omega arith) k (told r)
-    (upto-refused (s .n) (s .bytes .now) (at .i * 3) (matrix (at .act)) (at .inv .2) (inside c) k asked) tells
+    let number = sym (c .question .ensures) ∙ ap numberOf same ∙ tells in
+    gate-refused (s .n) (s .bytes .now) (s .out .now) (search needs) (omega arith) k (figuresOf r)
+    (upto-refused (s .n) (s .bytes .now) (at .i * 3) (matrix (at .act)) (at .inv .2) (inside c) k number) says
 
 enum-told : tie.Need-enum-told Inv-loop μ-loop
 enum-told c = search needs
@@ -101,9 +100,8 @@ enum-told c = search needs
 passed : (c : tie.After-enum-told Inv-loop μ-loop)
     → askedAt (c .before .before .before .before .before .before .before .before .before .before .before .before .before .args .n) (c .before .before .before .before .before .before .before .before .before .before .before .before .before .args .bytes .now)
     (c .before .before .before .before .before .before .before .loop .i * 3) ≡ 0
-unfolding numberOf
 passed c =
-    let same : c .before .before .question .result ≡ verdict.Passed = search (needs, c .enum-told .given) in
+    let same : c .before .before .question .result ≡ asked.Passed = search (needs, c .enum-told .given) in
     sym (c .before .before .question .ensures) ∙ ap numberOf same
 
 after-gate-requires : tie.Need-after-gate-requires Inv-loop μ-loop
@@ -117,22 +115,19 @@ enum-told-2 : tie.Need-enum-told-2 Inv-loop μ-loop
 enum-told-2 c = search needs
 
 returns-3 : tie.Need-returns-3 Inv-loop μ-loop
-unfolding numberOf told
-returns-3 c = refuses (c .before .before) 8 verdict.UnknownGate UnknownGate (search (needs, c .enum-told2 .given)) refl refl
+returns-3 c = refuses (c .before .before) 8 asked.UnknownGate UnknownGate (search (needs, c .enum-told2 .given)) refl refl
 
 enum-told-3 : tie.Need-enum-told-3 Inv-loop μ-loop
 enum-told-3 c = search needs
 
 returns-4 : tie.Need-returns-4 Inv-loop μ-loop
-unfolding numberOf told
-returns-4 c = refuses (c .before .before) 9 verdict.QubitTooHigh QubitTooHigh (search (needs, c .enum-told3 .given)) refl refl
+returns-4 c = refuses (c .before .before) 9 asked.QubitTooHigh QubitTooHigh (search (needs, c .enum-told3 .given)) refl refl
 
 enum-told-4 : tie.Need-enum-told-4 Inv-loop μ-loop
 enum-told-4 c = search needs
 
 returns-5 : tie.Need-returns-5 Inv-loop μ-loop
-unfolding numberOf told
-returns-5 c = refuses (c .before .before) 10 verdict.EqualQubits EqualQubits (search (needs, c .enum-told4 .given)) refl refl
+returns-5 c = refuses (c .before .before) 10 asked.EqualQubits EqualQubits (search (needs, c .enum-told4 .given)) refl refl
 
 add-i : tie.Need-add-i Inv-loop μ-loop
 add-i c = search needs
@@ -161,8 +156,8 @@ returns-6 c =
     let s = c .before .before .before .before .before .before .before .before .before .before .before .args in
     let at = c .before .before .before .before .before .loop in
     let all = upto-all (s .n) (s .bytes .now) (at .i * 3) (matrix (at .act)) (at .inv .2) (omega arith) in
-    gates-listed (s .n) (s .bytes .now) (s .out .now) (search needs) (omega arith) (s .n + s .n) (c .before .before .store .last .1 .0) (all .0) refl
-    (c .before .before .store .ensures ∙ ap (λ (l : List ℕ). laid l (s .out .now)) (all .1))
+    gates-listed (s .n) (s .bytes .now) (s .out .now) (search needs) (omega arith) (c .before .before .store .last .1 .0) (all .0)
+    (c .before .before .store .ensures ∙ ap₂ (λ (k : ℕ) (l : List ℕ). laid k l (s .out .now)) (at .inv .1) (all .1))
 
 pub gate-action-spec : {M : Type 1} → statement M
 gate-action-spec =

@@ -4,20 +4,17 @@ use mathlib.Core.Path.{_≡_, sym, _∙_}
 use mathlib.Core.Bool.{true}
 use borrow.Author.Tests.{not-true, not-false}
 use Rattle.gates.specs.Sequences.{readsTwo}
-use Rattle.gates.specs.Answers.{numberOf}
 use Rattle.gates.proofs.Asked.{unknown-gate, first-high, one-passed, second-high, equal-qubits, two-passed}
 use borrow.Author.Needs.{needs}
 use Rattle.gates.proofs.question.Statement.{statement}
 use Rattle.gates.proofs.question.Tie as tie
 
 returns : tie.Need-returns
-unfolding numberOf
 returns c =
     let s = c .before .args in
     sym (unknown-gate (s .n) (s .g) (s .a) (s .b) (search needs))
 
 returns-2 : tie.Need-returns-2
-unfolding numberOf
 returns-2 c =
     let s = c .before .before .args in
     sym (first-high (s .n) (s .g) (s .a) (s .b) (search needs) (search needs))
@@ -26,7 +23,6 @@ reads-two-requires : tie.Need-reads-two-requires
 reads-two-requires c κs = search needs
 
 returns-3 : tie.Need-returns-3
-unfolding numberOf
 returns-3 c =
     let s = c .before .before .before .before .args in
     let one = sym (c .before .reads-two .ensures) ∙ not-true (c .before .reads-two .result) (c .if3 .taken) in
@@ -37,19 +33,16 @@ two : (c : tie.Else3) → readsTwo (c .before .before .before .before .args .g) 
 two c = sym (c .before .reads-two .ensures) ∙ not-false (c .before .reads-two .result) (c .if3 .left)
 
 returns-4 : tie.Need-returns-4
-unfolding numberOf
 returns-4 c =
     let s = c .before .before .before .before .before .args in
     sym (second-high (s .n) (s .g) (s .a) (s .b) (search needs) (search needs) (two (c .before)) (search needs))
 
 returns-5 : tie.Need-returns-5
-unfolding numberOf
 returns-5 c =
     let s = c .before .before .before .before .before .before .args in
     sym (equal-qubits (s .n) (s .g) (s .a) (s .b) (search needs) (search needs) (two (c .before .before)) (search needs) (c .if5 .taken))
 
 returns-6 : tie.Need-returns-6
-unfolding numberOf
 returns-6 c =
     let s = c .before .before .before .before .before .before .args in
     sym (two-passed (s .n) (s .g) (s .a) (s .b) (search needs) (search needs) (two (c .before .before)) (search needs) (c .if5 .left))

@@ -3,7 +3,7 @@
 use mathlib.Core.Path.{ap}
 use lib.Dec.{eqb}
 use borrow.Author.Needs.{needs}
-use Rattle.gates.specs.Answers.{gateOf}
+use Rattle.gates.specs.inner.Readings.{gateOf}
 use Rattle.gates.specs.Sheet.{Gate}
 use Rattle.gates.specs.Sequences.{readsTwo}
 use Rattle.gates.proofs.reads_two.Statement.{statement}

@@ -6,7 +6,6 @@ use native.Mathlib.Omega.{arith}
 use borrow.Author.Tests.{not-true, not-false}
 use borrow.Author.Needs.{needs}
 use Rattle.job.specs.Files.{entryCount, entriesPass}
-use Rattle.job.specs.Answers.{numberOf}
 use Rattle.job.proofs.Checks.{file-short, file-long, file-cut, file-wide, file-entries}
 use Rattle.job.proofs.file_questions.Statement.{statement}
 use Rattle.job.proofs.file_questions.Tie as tie
@@ -17,13 +16,11 @@ asked : (c : tie.After-entries-pass)
 asked c = ap (entriesPass (c .before .before .before .before .before .before .before .before .args .file .now)) (sym (c .before .before .before .before .entry-count .ensures .0)) ∙ sym (c .entries-pass .ensures)
 
 returns : tie.Need-returns
-unfolding numberOf
 returns c =
     let file = c .before .before .args .file .now in
     sym (file-short file (omega arith))
 
 returns-2 : tie.Need-returns-2
-unfolding numberOf
 returns-2 c =
     let file = c .before .before .before .args .file .now in
     sym (file-long file (omega arith))
@@ -38,7 +35,6 @@ add-if3 : tie.Need-add-if3
 add-if3 c = search needs
 
 returns-3 : tie.Need-returns-3
-unfolding numberOf
 returns-3 c =
     let file = c .before .before .before .before .before .args .file .now in
     sym (file-cut file (omega arith))
@@ -47,7 +43,6 @@ qubit-count-requires : tie.Need-qubit-count-requires
 qubit-count-requires c κs = search needs
 
 returns-4 : tie.Need-returns-4
-unfolding numberOf
 returns-4 c =
     let file = c .before .before .before .before .before .before .before .args .file .now in
     sym (file-wide file (omega arith) (omega arith) (omega arith) (omega arith))
@@ -56,7 +51,6 @@ entries-pass-requires : tie.Need-entries-pass-requires
 entries-pass-requires c κs = search needs
 
 returns-5 : tie.Need-returns-5
-unfolding numberOf
 returns-5 c =
     let file = c .before .before .before .before .before .before .before .before .before .args .file .now in
     sym
@@ -64,7 +58,6 @@ returns-5 c =
     (asked (c .before) ∙ not-true (c .before .entries-pass .result) (c .if5 .taken)))
 
 returns-6 : tie.Need-returns-6
-unfolding numberOf
 returns-6 c =
     let file = c .before .before .before .before .before .before .before .before .before .args .file .now in
     sym

@@ -4,7 +4,8 @@ use mathlib.Core.Path.{sym, ap, _∙_}
 use mathlib.Core.List.{List, [], _∷_, _++_}
 use lib.ListN.{take}
 use Rattle.lines.specs.Lines.{decimal as decimalOf}
-use Rattle.lines.specs.Bytes.{lineRoom, bytesOf, tallied}
+use Rattle.lines.specs.Bytes.{lineRoom, bytesOf}
+use Rattle.lines.specs.inner.Tallies.{tallied}
 use Rattle.lines.proofs.Decimals.{tally-digit, tally-tens}
 use Rattle.lines.proofs.Cuts.{cut-then}
 use borrow.Author.Needs.{needs}

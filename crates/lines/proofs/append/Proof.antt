@@ -5,14 +5,14 @@ use mathlib.Core.List.{_++_}
 use Prim.Native.Nat.{_+_, _-_, _≤_}
 use native.Mathlib.Omega.{arith}
 use lib.ListN.{length, getD, take, length-set}
-use Rattle.lines.specs.Bytes.{bytesOf}
+use Rattle.lines.specs.Bytes.{lineRoom, bytesOf}
 use Rattle.lines.proofs.Cuts.{write-none, write-more, write-all}
 use borrow.Author.Needs.{needs}
 use Rattle.lines.proofs.append.Statement.{statement}
 use Rattle.lines.proofs.append.Tie as tie
 
 abbrev Inv-loop : tie.InvT-loop
-Inv-loop text k m n₀ q₀ n q = (q ≤ m) × (length (n .bytes) ≡ 4608) × (take (k + q) (n .bytes) ≡ take (k + q) (bytesOf n₀ ++ text))
+Inv-loop text k m n₀ q₀ n q = (q ≤ m) × (length (n .bytes) ≡ lineRoom) × (take (k + q) (n .bytes) ≡ take (k + q) (bytesOf n₀ ++ text))
 
 abbrev μ-loop : tie.MeasureT-loop
 μ-loop text k m n₀ q₀ n q = m - q
@@ -29,7 +29,7 @@ lesser-requires-2 c κs = search needs
 loop-holds : tie.Need-loop-holds Inv-loop μ-loop
 loop-holds c =
     let s = c .before .before .before .args in
-    let long : length (s .l .bytes) ≡ 4608 = search needs in
+    let long : length (s .l .bytes) ≡ lineRoom = search needs in
     (search needs, long, write-none (s .l) (s .text .now) (c .before .lesser .result) (c .lesser2 .result) long (c .before .lesser .ensures) (c .lesser2 .ensures))
 
 shared-slice-read-n : tie.Need-shared-slice-read-n Inv-loop μ-loop

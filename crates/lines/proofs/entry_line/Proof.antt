@@ -7,9 +7,10 @@ use native.Mathlib.Omega.{arith}
 use lib.ListN.{take, length-take}
 use lib.Seq.{length-take-le}
 use Rattle.blocks.specs.Words.{rowsOfWords}
-use Rattle.blocks.proofs.Values.{take-counted}
+use Rattle.blocks.proofs.Values.{take-counted, rows-take}
 use Rattle.lines.specs.Lines.{decimal, field, load, space, newline, spelled, line}
-use Rattle.lines.specs.Bytes.{lineRoom, bytesOf, nameBytes, tallied}
+use Rattle.lines.specs.Bytes.{lineRoom, bytesOf, nameBytes}
+use Rattle.lines.specs.inner.Tallies.{tallied}
 use Rattle.lines.proofs.Cuts.{cut-next, cut-four}
 use borrow.Author.Needs.{needs}
 use Rattle.lines.proofs.entry_line.Statement.{statement}
@@ -41,20 +42,22 @@ known : (f h : List ℕ) (a b u v d : ℕ) → u ≡ v → h ≡ take lineRoom (
 known f h a b u v d e p = p ∙ ap (λ (t : ℕ). take lineRoom (f ++ field a ++ field b ++ field t ++ field d)) e
 
 returns : tie.Need-returns
-unfolding line rowsOfWords
+unfolding line
 returns c =
     let s = c .before .before .before .before .before .before .before .before .args in
     let w = s .words .now in
-    let told = s .told in
-    let vs = take (told .count) w in
-    let same : take (c .before .before .before .before .before .before .lesser .result) w ≡ vs = ap (λ (k : ℕ). take k w) (c .before .before .before .before .before .before .lesser .ensures ∙ sym (length-take (told .count) w)) ∙ take-counted (told .count) w in
+    let figures = s .figures in
+    let vs = take (figures .count) (rowsOfWords (s .n) w) in
+    let k = c .before .before .before .before .before .before .lesser in
+    let front : take (k .result) w ≡ take (figures .count) w = ap (λ (j : ℕ). take j w) (k .ensures ∙ sym (length-take (figures .count) w)) ∙ take-counted (figures .count) w in
+    let same : rowsOfWords (s .n) (take (k .result) w) ≡ vs = ap (rowsOfWords (s .n)) front ∙ sym (rows-take (s .n) (figures .count) w) in
     let x = decimal (s .i) ++ (space ∷ nameBytes (s .which)) in
     let f = bytesOf (c .before .before .before .before .front .result) in
     let h = bytesOf (c .before .before .numbers .result) in
     let l = bytesOf (c .before .spelled .result) in
-    let y = x ++ field (told .number) ++ field (told .count) ++ field (load vs) ++ field (told .looks) in
-    let p : h ≡ take lineRoom y = cut-four lineRoom x f h (field (told .number)) (field (told .count)) (field (load vs)) (field (told .looks)) (c .before .before .before .before .front .ensures)
-    (known f h (told .number) (told .count) (tallied (c .before .before .before .load .result)) (load vs) (told .looks) (c .before .before .before .load .ensures ∙ ap load same) (c .before .before .numbers .ensures)) in
+    let y = x ++ field (figures .number) ++ field (figures .count) ++ field (load vs) ++ field (figures .looks) in
+    let p : h ≡ take lineRoom y = cut-four lineRoom x f h (field (figures .number)) (field (figures .count)) (field (load vs)) (field (figures .looks)) (c .before .before .before .before .front .ensures)
+    (known f h (figures .number) (figures .count) (tallied (c .before .before .before .load .result)) (load vs) (figures .looks) (c .before .before .before .load .ensures ∙ ap load same) (c .before .before .numbers .ensures)) in
     let q : l ≡ take lineRoom (y ++ spelled (s .n) vs) = cut-next lineRoom y h l (spelled (s .n) vs) p (c .before .spelled .ensures ∙ ap (λ (v : List ℕ). take lineRoom (h ++ spelled (s .n) v)) same) in
     cut-next lineRoom (y ++ spelled (s .n) vs) l (bytesOf (c .push .result)) (newline ∷ []) q (c .push .ensures)
 

@@ -2,7 +2,8 @@
 -- Assumes nothing.
 use mathlib.Core.List.{[], _∷_}
 use Rattle.lines.specs.Lines.{decimal, space}
-use Rattle.lines.specs.Bytes.{lineRoom, bytesOf, tallied}
+use Rattle.lines.specs.Bytes.{lineRoom, bytesOf}
+use Rattle.lines.specs.inner.Tallies.{tallied}
 use Rattle.lines.proofs.Cuts.{cut-then}
 use borrow.Author.Needs.{needs}
 use Rattle.lines.proofs.field.Statement.{statement}

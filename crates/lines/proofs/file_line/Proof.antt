@@ -6,7 +6,7 @@ use Prim.Native.Nat.{ℕ, _^_, _<_}
 use native.Mathlib.Omega.{arith}
 use lib.ListN.{take}
 use lib.Seq.{take-all}
-use Rattle.lines.specs.Lines.{field, newline, fileLine}
+use Rattle.lines.specs.Lines.{field, newline, fileWord, fileLine}
 use Rattle.lines.specs.Bytes.{lineRoom, bytesOf}
 use Rattle.lines.proofs.Cuts.{cut-next}
 use Rattle.lines.proofs.Fits.{file-fits}
@@ -32,19 +32,16 @@ field-requires c κs = search needs
 push-requires : tie.Need-push-requires
 push-requires c κs = search needs
 
-abbrev word : List ℕ
-word = 102 ∷ 105 ∷ 108 ∷ 101 ∷ []
-
 returns : tie.Need-returns
-unfolding fileLine lineRoom
+unfolding fileLine
 returns c =
     let v = c .before .before .before .before .before .before .args .number in
     let a = bytesOf (c .before .before .before .append .result) in
     let f = bytesOf (c .before .field .result) in
     let h : v < 2 ^ 64 = omega arith in
-    let p : a ≡ take lineRoom word = c .before .before .before .append .ensures ∙ ap (λ (l : List ℕ). take lineRoom (l ++ word)) (c .before .before .before .before .before .empty .ensures) in
-    let q : f ≡ take lineRoom (word ++ field v) = cut-next lineRoom word a f (field v) p (c .before .field .ensures ∙ ap (λ (u : ℕ). take lineRoom (a ++ field u)) (c .before .before .tally-of .ensures)) in
-    cut-next lineRoom (word ++ field v) f (bytesOf (c .push .result)) (newline ∷ []) q (c .push .ensures)
+    let p : a ≡ take lineRoom fileWord = c .before .before .before .append .ensures ∙ ap (λ (l : List ℕ). take lineRoom (l ++ fileWord)) (c .before .before .before .before .before .empty .ensures) in
+    let q : f ≡ take lineRoom (fileWord ++ field v) = cut-next lineRoom fileWord a f (field v) p (c .before .field .ensures ∙ ap (λ (u : ℕ). take lineRoom (a ++ field u)) (c .before .before .tally-of .ensures)) in
+    cut-next lineRoom (fileWord ++ field v) f (bytesOf (c .push .result)) (newline ∷ []) q (c .push .ensures)
     ∙ take-all lineRoom (fileLine v) (omega (arith, file-fits v h))
 
 pub file-line-spec : {M : Type 1} → statement M

@@ -8,7 +8,7 @@ use lib.ListN.{length, take, length-set}
 use Rattle.binar.specs.Bits.{bit}
 use Rattle.binar.specs.Rows.{val}
 use Rattle.lines.specs.Lines.{letter, letters}
-use Rattle.lines.specs.Bytes.{bytesOf}
+use Rattle.lines.specs.Bytes.{lineRoom, bytesOf}
 use Rattle.lines.proofs.Cuts.{write-none, write-more, write-all}
 use Rattle.lines.proofs.Spelling.{letters-length, letters-at}
 use borrow.Author.Needs.{needs}
@@ -16,14 +16,14 @@ use Rattle.lines.proofs.letters.Statement.{statement}
 use Rattle.lines.proofs.letters.Tie as tie
 
 abbrev Inv-loop : tie.InvT-loop
-Inv-loop n v k m high out₀ q₀ out q = (q ≤ m) × (length (out .bytes) ≡ 4608) × (take (k + q) (out .bytes) ≡ take (k + q) (bytesOf out₀ ++ letters n (val v)))
+Inv-loop n v k m high out₀ q₀ out q = (q ≤ m) × (length (out .bytes) ≡ lineRoom) × (take (k + q) (out .bytes) ≡ take (k + q) (bytesOf out₀ ++ letters n (val v)))
 
 abbrev μ-loop : tie.MeasureT-loop
 μ-loop n v k m high out₀ q₀ out q = m - q
 
 -- how many letters fit
-fit : (n v k m : ℕ) → m ≡ min n (4608 - k) → m ≡ min (length (letters n v)) (4608 - k)
-fit n v k m e = e ∙ ap (λ (j : ℕ). min j (4608 - k)) (sym (letters-length n v))
+fit : (n v k m : ℕ) → m ≡ min n (lineRoom - k) → m ≡ min (length (letters n v)) (lineRoom - k)
+fit n v k m e = e ∙ ap (λ (j : ℕ). min j (lineRoom - k)) (sym (letters-length n v))
 
 lesser-requires : tie.Need-lesser-requires Inv-loop μ-loop
 lesser-requires c κs = search needs
@@ -42,7 +42,7 @@ loop-holds c =
     let s = c .before .before .before .args in
     let k = c .before .before .lesser .result in
     let m = c .before .lesser2 .result in
-    let long : length (s .l .bytes) ≡ 4608 = search needs in
+    let long : length (s .l .bytes) ≡ lineRoom = search needs in
     (search needs, long, write-none (s .l) (letters (s .n) (val (s .v))) k m long (c .before .before .lesser .ensures) (fit (s .n) (val (s .v)) k m (c .before .lesser2 .ensures)))
 
 bit-requires : tie.Need-bit-requires Inv-loop μ-loop

@@ -6,18 +6,19 @@ use native.Mathlib.Omega.{arith}
 use lib.ListN.{length, drop, getD, drop-of-length-le}
 use Rattle.binar.specs.Bits.{weight}
 use Rattle.blocks.specs.Words.{rowsOfWords}
+use Rattle.blocks.proofs.Values.{rows-count, rows-word}
 use Rattle.lines.specs.Lines.{load}
-use Rattle.lines.specs.Bytes.{tallied}
+use Rattle.lines.specs.inner.Tallies.{tallied}
 use Rattle.lines.proofs.Spelling.{load-next, weight-le}
 use borrow.Author.Needs.{needs}
 use Rattle.lines.proofs.load.Statement.{statement}
 use Rattle.lines.proofs.load.Tie as tie
 
 abbrev Inv-loop : tie.InvT-loop
-Inv-loop words tens₀ unit₀ i₀ i-end tens unit i = (i ≤ length words) × (unit < 10) × (tens * 10 + unit ≤ 64 * i) × (tens * 10 + unit + load (drop i words) ≡ load words)
+Inv-loop n words tens₀ unit₀ i₀ i-end tens unit i = (i ≤ length words) × (unit < 10) × (tens * 10 + unit ≤ 64 * i) × (tens * 10 + unit + load (drop i (rowsOfWords n words)) ≡ load (rowsOfWords n words))
 
 abbrev μ-loop : tie.MeasureT-loop
-μ-loop words tens₀ unit₀ i₀ i-end tens unit i = length words - i
+μ-loop n words tens₀ unit₀ i₀ i-end tens unit i = length words - i
 
 loop-holds : tie.Need-loop-holds Inv-loop μ-loop
 loop-holds c = search needs
@@ -34,7 +35,7 @@ of-word-requires c κs = search needs
 weight-requires : tie.Need-weight-requires Inv-loop μ-loop
 weight-requires c κs = search needs
 
--- the weight of the word that is read
+-- the weight of the word that is read, which has 64 bits
 one : (c : tie.After-weight Inv-loop μ-loop) → (c .weight .result ≡ weight (getD (c .before .before .before .before .before .before .args .words .now) (c .before .before .before .before .loop .i) 0)) × (c .weight .result ≤ 64)
 one c =
     let v = getD (c .before .before .before .before .before .before .args .words .now) (c .before .before .before .before .loop .i) 0 in
@@ -57,15 +58,19 @@ loop-again : tie.Need-loop-again Inv-loop μ-loop
 loop-again c =
     let at = c .before .before .before .before .loop in
     let o = one c in
-    omega (arith, load-next (at .i) (c .before .before .before .before .before .before .args .words .now) (omega arith))
+    let s = c .before .before .before .before .before .before .args in
+    let rows = rowsOfWords (s .n) (s .words .now) in
+    let inside : at .i < length rows = omega (arith, rows-count (s .n) (s .words .now)) in
+    omega (arith, load-next (at .i) rows inside, ap weight (rows-word (s .n) (s .words .now) (at .i)))
 
 returns : tie.Need-returns Inv-loop μ-loop
-unfolding tallied rowsOfWords load
+unfolding tallied load
 returns c =
     let at = c .before .loop in
-    let w = c .before .before .before .args .words .now in
-    let past : length w ≤ at .i = omega arith in
-    omega (arith, ap load (drop-of-length-le w past))
+    let s = c .before .before .before .args in
+    let rows = rowsOfWords (s .n) (s .words .now) in
+    let past : length rows ≤ at .i = omega (arith, rows-count (s .n) (s .words .now)) in
+    omega (arith, ap load (drop-of-length-le rows past))
 
 pub load-spec : {M : Type 1} → statement M
 load-spec =

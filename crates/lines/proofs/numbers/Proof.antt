@@ -5,7 +5,8 @@ use mathlib.Core.List.{List, _++_}
 use Prim.Native.Nat.{ℕ}
 use lib.ListN.{take}
 use Rattle.lines.specs.Lines.{field}
-use Rattle.lines.specs.Bytes.{lineRoom, bytesOf, tallied}
+use Rattle.lines.specs.Bytes.{lineRoom, bytesOf}
+use Rattle.lines.specs.inner.Tallies.{tallied}
 use Rattle.lines.proofs.Cuts.{cut-next}
 use borrow.Author.Needs.{needs}
 use Rattle.lines.proofs.numbers.Statement.{statement}
@@ -40,15 +41,15 @@ returns : tie.Need-returns
 returns c =
     let s = c .before .before .before .before .before .before .before .args in
     let b = bytesOf (s .l) in
-    let told = s .told in
-    let x = b ++ field (told .number) in
+    let figures = s .figures in
+    let x = b ++ field (figures .number) in
     let first = bytesOf (c .before .before .before .before .field .result) in
     let second = bytesOf (c .before .before .field2 .result) in
     let third = bytesOf (c .before .field3 .result) in
     let p = c .before .before .before .before .field .ensures ∙ ap (λ (u : ℕ). take lineRoom (b ++ field u)) (c .before .before .before .before .before .tally-of2 .ensures) in
-    let q = behind x first second (tallied (c .before .before .before .tally-of3 .result)) (told .count) p (c .before .before .before .tally-of3 .ensures) (c .before .before .field2 .ensures) in
-    let r = cut-next lineRoom (x ++ field (told .count)) second third (field (tallied (s .load))) q (c .before .field3 .ensures) in
-    behind (x ++ field (told .count) ++ field (tallied (s .load))) third (bytesOf (c .field4 .result)) (tallied (c .before .before .before .before .before .before .tally-of .result)) (told .looks) r (c .before .before .before .before .before .before .tally-of .ensures) (c .field4 .ensures)
+    let q = behind x first second (tallied (c .before .before .before .tally-of3 .result)) (figures .count) p (c .before .before .before .tally-of3 .ensures) (c .before .before .field2 .ensures) in
+    let r = cut-next lineRoom (x ++ field (figures .count)) second third (field (tallied (s .load))) q (c .before .field3 .ensures) in
+    behind (x ++ field (figures .count) ++ field (tallied (s .load))) third (bytesOf (c .field4 .result)) (tallied (c .before .before .before .before .before .before .tally-of .result)) (figures .looks) r (c .before .before .before .before .before .before .tally-of .ensures) (c .field4 .ensures)
 
 pub numbers-spec : {M : Type 1} → statement M
 numbers-spec =

@@ -6,7 +6,9 @@ use Prim.Native.Nat.{ℕ, _-_, _≤_, _<_}
 use native.Mathlib.Omega.{arith}
 use lib.ListN.{length, getD, take}
 use lib.Seq.{take-all}
+use Rattle.binar.specs.Rows.{val}
 use Rattle.blocks.specs.Words.{rowsOfWords}
+use Rattle.blocks.proofs.Values.{rows-count, rows-word}
 use Rattle.lines.specs.Lines.{letters, spelled, space}
 use Rattle.lines.specs.Bytes.{lineRoom, bytesOf}
 use Rattle.lines.proofs.Cuts.{cut-then, bytes-whole}
@@ -16,7 +18,7 @@ use Rattle.lines.proofs.spelled.Statement.{statement}
 use Rattle.lines.proofs.spelled.Tie as tie
 
 abbrev Inv-loop : tie.InvT-loop
-Inv-loop n words out₀ i₀ i-end out i = (i ≤ length words) × (bytesOf out ≡ take lineRoom (bytesOf out₀ ++ spelled n (take i words)))
+Inv-loop n words out₀ i₀ i-end out i = (i ≤ length words) × (bytesOf out ≡ take lineRoom (bytesOf out₀ ++ spelled n (take i (rowsOfWords n words))))
 
 abbrev μ-loop : tie.MeasureT-loop
 μ-loop n words out₀ i₀ i-end out i = length words - i
@@ -53,24 +55,26 @@ loop-again c =
     let s = c .before .before .before .before .before .before .before .args in
     let w = s .words .now in
     let at = c .before .before .before .before .before .loop in
+    let rows = rowsOfWords (s .n) w in
     let b = bytesOf (s .l) in
-    let v = getD w (at .i) 0 in
+    let v = getD rows (at .i) 0 in
     let r = bytesOf (c .letters .result) in
     let p = bytesOf (c .before .before .before .push .result) in
-    let h : at .i < length w = omega arith in
-    let one : r ≡ take lineRoom (bytesOf (at .out) ++ (space ∷ letters (s .n) v)) = cut-then lineRoom (bytesOf (at .out)) p r (space ∷ []) (letters (s .n) v) (c .before .before .before .push .ensures) (c .letters .ensures ∙ ap (λ (u : ℕ). take lineRoom (p ++ letters (s .n) u)) (c .before .of-word .ensures)) in (
+    let h : at .i < length rows = omega (arith, rows-count (s .n) w) in
+    let row : val (c .before .of-word .result) ≡ v = c .before .of-word .ensures ∙ sym (rows-word (s .n) w (at .i)) in
+    let one : r ≡ take lineRoom (bytesOf (at .out) ++ (space ∷ letters (s .n) v)) = cut-then lineRoom (bytesOf (at .out)) p r (space ∷ []) (letters (s .n) v) (c .before .before .before .push .ensures) (c .letters .ensures ∙ ap (λ (u : ℕ). take lineRoom (p ++ letters (s .n) u)) row) in (
       search needs,
-      cut-then lineRoom b (bytesOf (at .out)) r (spelled (s .n) (take (at .i) w)) (space ∷ letters (s .n) v) (at .inv .1) one
-          ∙ ap (λ (l : List ℕ). take lineRoom (b ++ l)) (sym (spelled-next (s .n) (at .i) w h)),
+      cut-then lineRoom b (bytesOf (at .out)) r (spelled (s .n) (take (at .i) rows)) (space ∷ letters (s .n) v) (at .inv .1) one
+          ∙ ap (λ (l : List ℕ). take lineRoom (b ++ l)) (sym (spelled-next (s .n) (at .i) rows h)),
     )
 
 returns : tie.Need-returns Inv-loop μ-loop
-unfolding rowsOfWords
 returns c =
     let s = c .before .before .before .args in
     let w = s .words .now in
     let at = c .before .loop in
-    at .inv .1 ∙ ap (λ (l : List ℕ). take lineRoom (bytesOf (s .l) ++ spelled (s .n) l)) (take-all (at .i) w (omega arith))
+    at .inv .1
+    ∙ ap (λ (l : List ℕ). take lineRoom (bytesOf (s .l) ++ spelled (s .n) l)) (take-all (at .i) (rowsOfWords (s .n) w) (omega (arith, rows-count (s .n) w)))
 
 pub spelled-spec : {M : Type 1} → statement M
 spelled-spec =

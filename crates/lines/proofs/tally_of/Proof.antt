@@ -1,7 +1,7 @@
 -- `tally_of` splits off the last digit, by what `tallied` says.
 -- Assumes nothing.
 use borrow.Author.Needs.{needs}
-use Rattle.lines.specs.Bytes.{tallied}
+use Rattle.lines.specs.inner.Tallies.{tallied}
 use Rattle.lines.proofs.tally_of.Statement.{statement}
 use Rattle.lines.proofs.tally_of.Tie as tie
 

@@ -1,4 +1,4 @@
--- `greedy_answer` prints what the greedy call tells and leaves; the line fits, by `line-told`.
+-- `greedy_answer` prints what the greedy call tells and leaves; the line fits, by `line-figures`.
 -- Assumes nothing.
 use mathlib.Core.Path.{_≡_, sym, ap, _∙_}
 use mathlib.Core.List.{List, _++_}
@@ -7,12 +7,12 @@ use native.Mathlib.Omega.{arith}
 use lib.ListN.{length, take, drop, replicate, length-append}
 use lib.Seq.{take-at, length-take-le}
 use borrow.Author.Needs.{needs}
-use Rattle.symplectic.specs.Replies.{toldOf}
+use Rattle.symplectic.specs.Replies.{}
 use Rattle.transvection.specs.Greedy.{greedyReply}
 use Rattle.lines.specs.declared.Name.the-variants.{Greedy}
 use Rattle.printout.specs.Printout.{blankWords}
 use Rattle.printout.proofs.Calls.{blank-front, greedy-kept, greedy-below}
-use Rattle.printout.proofs.Printing.{line-told}
+use Rattle.printout.proofs.Printing.{line-figures}
 use Rattle.printout.proofs.greedy_answer.Statement.{statement}
 use Rattle.printout.proofs.greedy_answer.Tie as tie
 
@@ -49,8 +49,8 @@ slice-aggregate-clifford-to-transvections-2 c =
 clifford-to-transvections-requires : tie.Need-clifford-to-transvections-requires
 clifford-to-transvections-requires c κs = search needs
 
-tell-requires : tie.Need-tell-requires
-tell-requires c κs = search needs
+figures-of-requires : tie.Need-figures-of-requires
+figures-of-requires c κs = search needs
 
 -- the lent words keep their count
 kept : (c : tie.After-clifford-to-transvections) → length (c .clifford-to-transvections .last .1 .1 .0) ≡ 4 * c .before .before .before .before .args .n + 2
@@ -75,12 +75,11 @@ entry-line-requires : tie.Need-entry-line-requires
 entry-line-requires c κs = search needs
 
 returns : tie.Need-returns
-unfolding toldOf
 returns c =
     let s = c .before .before .before .before .before .before .before .before .args in
     let n = s .n in
     let call = c .before .before .before .before .clifford-to-transvections in
-    let t = c .before .before .tell in
+    let t = c .before .before .figures-of in
     let left = call .last .1 .1 .0 in
     let words = take (4 * n + 2) (left ++ drop (4 * n + 2) (replicate 130 0)) in
     let long = kept (c .before .before .before .before) in
@@ -88,11 +87,11 @@ returns c =
     let rows = take (n + n) (s .l .rows) in
     let blank : take (4 * n + 2) (replicate 130 0) ≡ blankWords (4 * n + 2) = blank-front (4 * n + 2) 130 (search needs) in
     let reply = greedyReply n rows (blankWords (4 * n + 2)) in
-    let told = call .ensures .0 ∙ ap (λ (out : List ℕ). toldOf (greedyReply n rows out)) blank in
+    let figures = call .ensures .0 ∙ ap (λ (out : List ℕ). greedyReply n rows out .figures) blank in
     let short : length words ≤ 130 = omega (arith, ap length front) in
     c .entry-line .ensures
-    ∙ line-told n (s .i) Greedy (t .result) words (search needs) (search needs) reply (search needs) (n + n) (omega arith) short (greedy-below n rows (blankWords (4 * n + 2)))
-    (t .ensures ∙ told)
+    ∙ line-figures n (s .i) Greedy (t .result) words (search needs) (search needs) reply (search needs) (n + n) (omega arith) short (greedy-below n rows (blankWords (4 * n + 2)))
+    (t .ensures ∙ figures)
     (front ∙ call .ensures .1 .0 ∙ ap (λ (out : List ℕ). greedyReply n rows out .words) blank)
 
 pub greedy-answer-spec : {M : Type 1} → statement M
@@ -107,7 +106,7 @@ greedy-answer-spec =
     array-borrow-prefix-out
     slice-aggregate-clifford-to-transvections-2
     clifford-to-transvections-requires
-    tell-requires
+    figures-of-requires
     array-share-prefix-out
     slice-aggregate-entry-line
     entry-line-requires

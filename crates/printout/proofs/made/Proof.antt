@@ -6,8 +6,8 @@ use Prim.Native.Nat.{ℕ, _+_}
 use lib.ListN.{length, take, drop, replicate}
 use lib.Seq.{take-at, length-take-le}
 use borrow.Author.Needs.{needs}
-use Rattle.symplectic.specs.declared.Told.{Told}
-use Rattle.symplectic.specs.Replies.{Reply, toldOf}
+use Rattle.symplectic.specs.declared.Figures.{Figures}
+use Rattle.symplectic.specs.Replies.{Reply}
 use Rattle.gates.specs.Sequences.{gatesReply}
 use Rattle.printout.specs.Printout.{blankWords}
 use Rattle.printout.proofs.Calls.{blank-front, gates-kept}
@@ -28,11 +28,10 @@ slice-aggregate-gate-action c =
 gate-action-requires : tie.Need-gate-action-requires
 gate-action-requires c κs = search needs
 
-tell-requires : tie.Need-tell-requires
-tell-requires c κs = search needs
+figures-of-requires : tie.Need-figures-of-requires
+figures-of-requires c κs = search needs
 
 returns : tie.Need-returns
-unfolding toldOf
 returns c =
     let s = c .before .before .before .before .before .args in
     let call = c .before .before .gate-action in
@@ -41,7 +40,7 @@ returns c =
     let same = ap (λ (out : List ℕ). gatesReply (s .n) (s .bytes .now) out) blank in
     let kept : length left ≡ s .n + s .n =
     ap length (call .ensures .1 .0) ∙ gates-kept (s .n) (s .bytes .now) (take (s .n + s .n) (replicate 64 0)) ∙ length-take-le (s .n + s .n) (replicate 64 0) (search needs) in (
-      ap (λ (r : Reply). r .number) (sym same) ∙ sym (ap (λ (t : Told). t .number) (c .tell .ensures ∙ call .ensures .0)),
+      ap (λ (r : Reply). r .number) (sym same) ∙ sym (ap (λ (t : Figures). t .number) (c .figures-of .ensures ∙ call .ensures .0)),
       ap (λ (r : Reply). r .words) (sym same) ∙ sym (call .ensures .1 .0) ∙ sym (take-at left (drop (s .n + s .n) (replicate 64 0)) (s .n + s .n) kept),
     )
 
@@ -53,5 +52,5 @@ made-spec =
     array-borrow-prefix-rows
     slice-aggregate-gate-action
     gate-action-requires
-    tell-requires
+    figures-of-requires
     returns)

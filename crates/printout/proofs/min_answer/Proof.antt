@@ -1,4 +1,4 @@
--- `min_answer` prints what the minimal call tells and leaves; the line fits, by `line-told`.
+-- `min_answer` prints what the minimal call tells and leaves; the line fits, by `line-figures`.
 -- Assumes nothing.
 use mathlib.Core.Path.{_≡_, sym, ap, _∙_}
 use mathlib.Core.List.{List, _++_}
@@ -7,12 +7,12 @@ use native.Mathlib.Omega.{arith}
 use lib.ListN.{length, take, drop, replicate, length-append}
 use lib.Seq.{take-at, length-take-le}
 use borrow.Author.Needs.{needs}
-use Rattle.symplectic.specs.Replies.{toldOf}
+use Rattle.symplectic.specs.Replies.{}
 use Rattle.transvection_exact.specs.Minimal.{minimalReply}
 use Rattle.lines.specs.declared.Name.the-variants.{Min}
 use Rattle.printout.specs.Printout.{jobBudget, blankWords}
 use Rattle.printout.proofs.Calls.{blank-front, min-kept, min-below}
-use Rattle.printout.proofs.Printing.{line-told}
+use Rattle.printout.proofs.Printing.{line-figures}
 use Rattle.printout.proofs.min_answer.Statement.{statement}
 use Rattle.printout.proofs.min_answer.Tie as tie
 
@@ -49,8 +49,8 @@ slice-aggregate-clifford-to-transvections-minimal-2 c =
 clifford-to-transvections-minimal-requires : tie.Need-clifford-to-transvections-minimal-requires
 clifford-to-transvections-minimal-requires c κs = search needs
 
-tell-requires : tie.Need-tell-requires
-tell-requires c κs = search needs
+figures-of-requires : tie.Need-figures-of-requires
+figures-of-requires c κs = search needs
 
 -- the lent words keep their count
 kept : (c : tie.After-clifford-to-transvections-minimal) → length (c .clifford-to-transvections-minimal .last .1 .1 .1 .0) ≡ c .before .before .before .before .args .n + c .before .before .before .before .args .n + 1
@@ -75,12 +75,11 @@ entry-line-requires : tie.Need-entry-line-requires
 entry-line-requires c κs = search needs
 
 returns : tie.Need-returns
-unfolding toldOf
 returns c =
     let s = c .before .before .before .before .before .before .before .before .args in
     let n = s .n in
     let call = c .before .before .before .before .clifford-to-transvections-minimal in
-    let t = c .before .before .tell in
+    let t = c .before .before .figures-of in
     let left = call .last .1 .1 .1 .0 in
     let words = take (n + n + 1) (left ++ drop (n + n + 1) (replicate 65 0)) in
     let long = kept (c .before .before .before .before) in
@@ -88,11 +87,11 @@ returns c =
     let rows = take (n + n) (s .l .rows) in
     let blank : take (n + n + 1) (replicate 65 0) ≡ blankWords (n + n + 1) = blank-front (n + n + 1) 65 (search needs) in
     let reply = minimalReply n rows jobBudget (blankWords (n + n + 1)) in
-    let told = call .ensures .0 ∙ ap (λ (out : List ℕ). toldOf (minimalReply n rows jobBudget out)) blank in
+    let figures = call .ensures .0 ∙ ap (λ (out : List ℕ). minimalReply n rows jobBudget out .figures) blank in
     let short : length words ≤ 130 = omega (arith, ap length front) in
     c .entry-line .ensures
-    ∙ line-told n (s .i) Min (t .result) words (search needs) (search needs) reply (search needs) (n + n) (omega arith) short (min-below n rows jobBudget (blankWords (n + n + 1)))
-    (t .ensures ∙ told)
+    ∙ line-figures n (s .i) Min (t .result) words (search needs) (search needs) reply (search needs) (n + n) (omega arith) short (min-below n rows jobBudget (blankWords (n + n + 1)))
+    (t .ensures ∙ figures)
     (front ∙ call .ensures .1 .0 ∙ ap (λ (out : List ℕ). minimalReply n rows jobBudget out .words) blank)
 
 pub min-answer-spec : {M : Type 1} → statement M
@@ -107,7 +106,7 @@ min-answer-spec =
     array-borrow-prefix-out
     slice-aggregate-clifford-to-transvections-minimal-2
     clifford-to-transvections-minimal-requires
-    tell-requires
+    figures-of-requires
     array-share-prefix-out
     slice-aggregate-entry-line
     entry-line-requires

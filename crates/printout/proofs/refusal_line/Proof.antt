@@ -1,11 +1,11 @@
--- `refusal_line` prints a refusal whole, by `line-told`.
+-- `refusal_line` prints a refusal whole, by `line-figures`.
 -- Assumes nothing.
 use mathlib.Core.Path.{refl, _∙_}
 use mathlib.Core.List.{[]}
 use native.Mathlib.Omega.{arith}
 use borrow.Author.Needs.{needs}
-use Rattle.symplectic.specs.Replies.{toldOf, refused}
-use Rattle.printout.proofs.Printing.{line-told}
+use Rattle.symplectic.specs.Replies.{refused}
+use Rattle.printout.proofs.Printing.{line-figures}
 use Rattle.printout.proofs.refusal_line.Statement.{statement}
 use Rattle.printout.proofs.refusal_line.Tie as tie
 
@@ -22,12 +22,11 @@ entry-line-requires : tie.Need-entry-line-requires
 entry-line-requires c κs = search needs
 
 returns : tie.Need-returns
-unfolding refused toldOf
 returns c =
     let s = c .before .before .before .args in
-    let told = c .before .before .telling in
+    let figures = c .before .before .telling in
     c .entry-line .ensures
-    ∙ line-told (s .n) (s .i) (s .which) (told .result) [] (search needs) (search needs) (refused (s .number) 0 []) (search needs) 64 (omega arith) (omega arith) tt (told .ensures) refl
+    ∙ line-figures (s .n) (s .i) (s .which) (figures .result) [] (search needs) (search needs) (refused (s .number) 0 []) (search needs) 64 (omega arith) (omega arith) tt (figures .ensures) refl
 
 pub refusal-line-spec : {M : Type 1} → statement M
 refusal-line-spec =

@@ -10,18 +10,19 @@ use native.Mathlib.Nat.{sub-zero}
 use lib.Dec.{eqb}
 use lib.ListN.{length, getD}
 use Rattle.binar.specs.Bits.{bit, select, _⊕_}
-use Rattle.binar.specs.Rows.{val, blank}
+use Rattle.binar.specs.Rows.{val}
+use Rattle.binar.specs.inner.Blank.{blank}
 use Rattle.blocks.specs.declared.Block.{Block}
-use Rattle.blocks.specs.Blocks.{rowsOf}
-use Rattle.blocks.proofs.Values.{rows-get, rows-set, rows-fit, unmapped}
+use Rattle.blocks.specs.Blocks.{room, rowsOf}
+use Rattle.blocks.proofs.Values.{rows-get, rows-fit, unmapped}
 use Rattle.symplectic.specs.Picks.{addBoth}
 use Rattle.reduction.specs.Columns.{columns}
-use Rattle.reduction.specs.Sweeps.{halves, swept}
+use Rattle.reduction.specs.inner.Sweeps.{halves, swept}
 use Rattle.reduction.proofs.Flat.{columns-done}
 use Rattle.reduction.proofs.Sweep.{swept-zero, swept-length, swept-ahead, swept-write}
 use Rattle.reduction.proofs.TwoLists.{both-none}
 use Rattle.reduction.proofs.Loops.{column-done}
-use Rattle.reduction.proofs.Crossed.{crossed, crossed-is, crossed-length, crossed-first, fewer, carried}
+use Rattle.reduction.proofs.Crossed.{written-is, crossed, crossed-is, crossed-length, crossed-first, fewer, carried}
 use native.Mathlib.Omega.{arith}
 use borrow.Author.Needs.{needs}
 use Rattle.reduction.proofs.by_columns.Statement.{statement}
@@ -39,7 +40,7 @@ abbrev μ-loop2 : tie.MeasureT-loop2
 
 abbrev Inv-loop : tie.InvT-loop
 Inv-loop m k a₀ t₀ p₀ c₀ a t p c =
-    (c ≤ m) × (k ≤ 65) × (length (rowsOf a) ≡ k) × (length (rowsOf t) ≡ k) × (p ≤ k)
+    (c ≤ m) × (k ≤ room) × (length (rowsOf a) ≡ k) × (length (rowsOf t) ≡ k) × (p ≤ k)
     × (columns (0, 0) addBoth (λ i a. bit i (a .0)) (m - c) c (halves p (zip (rowsOf a) (rowsOf t)))
     ≡ columns (0, 0) addBoth (λ i a. bit i (a .0)) m 0 (halves p₀ (zip (rowsOf a₀) (rowsOf t₀))))
 
@@ -179,7 +180,6 @@ loop2-less : tie.Need-loop2-less Inv-loop2 μ-loop2 Inv-loop μ-loop
 loop2-less c = search needs
 
 loop2-again : tie.Need-loop2-again Inv-loop2 μ-loop2 Inv-loop μ-loop
-unfolding rowsOf
 loop2-again c =
     let from = c .before .before .before .before .before .before .before .before .before .before .before .before .before .before .before .loop in
     let at = c .before .before .before .before .before .before .before .loop2 in
@@ -203,10 +203,10 @@ loop2-again c =
       at .inv .2,
       at .inv .3,
       at .inv .4,
-      rows-set (at .a .rows) (at .a .count) i (row .result)
+      written-is (at .a) i (row .result)
           ∙ swept-write 0 _⊕_ has p i R (rowsOf (at .a)) (b .result) (val (row .result)) v (at .inv .5) (at .inv .3) test
           (row .ensures ∙ ap (λ (u : ℕ). select u (not (eqb i p) && b .result) (u ⊕ v)) (rows-get (at .a) i h)),
-      rows-set (at .t .rows) (at .t .count) i (beside .result)
+      written-is (at .t) i (beside .result)
           ∙ swept-write 0 _⊕_ has p i T (rowsOf (at .t)) (b .result) (val (beside .result)) w (at .inv .6) (at .inv .4) test
           (beside .ensures ∙ ap (λ (u : ℕ). select u (not (eqb i p) && b .result) (u ⊕ w)) (rows-get (at .t) i g)),
     )

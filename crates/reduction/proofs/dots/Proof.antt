@@ -11,6 +11,7 @@ use Rattle.binar.specs.Rows.{val, width}
 use Rattle.binar.proofs.Ones.{unit-is}
 use Rattle.blocks.specs.Blocks.{rowsOf}
 use Rattle.blocks.specs.Matrices.{dots}
+use Rattle.blocks.proofs.Products.{dots-nil}
 use Rattle.blocks.proofs.Values.{rows-get}
 use Rattle.reduction.proofs.Loops.{dots-next}
 use native.Mathlib.Omega.{arith}
@@ -19,7 +20,7 @@ use Rattle.reduction.proofs.dots.Statement.{statement}
 use Rattle.reduction.proofs.dots.Tie as tie
 
 abbrev Inv-loop : tie.InvT-loop
-Inv-loop v rows k w₀ i₀ w i = (i ≤ k) × (k ≤ 64) × (val w ≡ dots (take i (rowsOf rows)) (val v))
+Inv-loop v rows k w₀ i₀ w i = (i ≤ k) × (k ≤ width) × (val w ≡ dots (take i (rowsOf rows)) (val v))
 
 abbrev μ-loop : tie.MeasureT-loop
 μ-loop v rows k w₀ i₀ w i = k - i
@@ -34,11 +35,10 @@ zero-requires : tie.Need-zero-requires Inv-loop μ-loop
 zero-requires c κs = search needs
 
 loop-holds : tie.Need-loop-holds Inv-loop μ-loop
-unfolding dots width
 loop-holds c =
     let from = c .before .before in
-    let short : length (rowsOf (from .first-rows .result)) ≤ 64 = omega (arith, ap length (from .first-rows .ensures), length-take 64 (rowsOf (from .before .args .b))) in
-    (search needs, omega (arith, c .before .length-of .ensures), c .zero .ensures)
+    let short : length (rowsOf (from .first-rows .result)) ≤ width = omega (arith, ap length (from .first-rows .ensures), length-take width (rowsOf (from .before .args .b))) in
+    (search needs, omega (arith, c .before .length-of .ensures), c .zero .ensures ∙ sym (dots-nil (val (from .before .args .v))))
 
 mul-dot : tie.Need-mul-dot Inv-loop μ-loop
 mul-dot c = search needs
@@ -59,7 +59,6 @@ loop-less : tie.Need-loop-less Inv-loop μ-loop
 loop-less c = search needs
 
 loop-again : tie.Need-loop-again Inv-loop μ-loop
-unfolding width
 loop-again c =
     let at = c .before .before .before .before .loop in
     let from = c .before .before .before .before .before .before .before in
@@ -74,7 +73,6 @@ loop-again c =
     )
 
 returns : tie.Need-returns Inv-loop μ-loop
-unfolding width
 returns c =
     let from = c .before .before .before .before in
     let s = from .before .args in

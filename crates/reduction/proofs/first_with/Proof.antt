@@ -5,7 +5,7 @@ use mathlib.Core.Bool.{false}
 use Prim.Native.Nat.{ℕ, _-_, _≤_, _<_}
 use lib.ListN.{length, getD}
 use Rattle.binar.specs.Bits.{bit}
-use Rattle.blocks.specs.Blocks.{rowsOf}
+use Rattle.blocks.specs.Blocks.{room, rowsOf}
 use Rattle.blocks.proofs.Values.{rows-get, rows-fit, unmapped}
 use Rattle.reduction.proofs.Loops.{none-more}
 use native.Mathlib.Omega.{arith}
@@ -14,7 +14,7 @@ use Rattle.reduction.proofs.first_with.Statement.{statement}
 use Rattle.reduction.proofs.first_with.Tie as tie
 
 abbrev Inv-loop : tie.InvT-loop
-Inv-loop c p b k i₀ i = (p ≤ i) × (k ≤ 65) × ((x : ℕ) → p ≤ x → x < i → bit c (getD (rowsOf b) x 0) ≡ false)
+Inv-loop c p b k i₀ i = (p ≤ i) × (k ≤ room) × ((x : ℕ) → p ≤ x → x < i → bit c (getD (rowsOf b) x 0) ≡ false)
 
 abbrev μ-loop : tie.MeasureT-loop
 μ-loop c p b k i₀ i = k - i

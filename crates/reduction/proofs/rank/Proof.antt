@@ -6,7 +6,7 @@ use Rattle.binar.specs.Bits.{bit}
 use Rattle.blocks.specs.Blocks.{rowsOf}
 use Rattle.symplectic.specs.Picks.{addBoth}
 use Rattle.reduction.specs.Columns.{columns}
-use Rattle.reduction.specs.Sweeps.{halves}
+use Rattle.reduction.specs.inner.Sweeps.{halves}
 use Rattle.reduction.proofs.Loops.{rank-of, rank-beside}
 use Rattle.reduction.proofs.rank.Statement.{statement}
 use Rattle.reduction.proofs.rank.Tie as tie

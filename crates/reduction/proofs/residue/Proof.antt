@@ -1,14 +1,13 @@
 -- `residue` writes the rows of I + F one by one, each where its half goes.
 -- Assumes nothing.
-use mathlib.Core.Path.{_≡_, refl, ap, ap₂, _∙_}
+use mathlib.Core.Path.{_≡_, refl, ap₂, _∙_}
 use Prim.Native.Nat.{_+_, _-_, _≤_, _<_}
 use lib.ListN.{length, take, length-set}
 use Rattle.binar.specs.Bits.{_⊕_}
-use Rattle.binar.specs.Rows.{width}
 use Rattle.binar.proofs.Ones.{unit-is}
-use Rattle.blocks.specs.Blocks.{vals, rowsOf}
-use Rattle.blocks.proofs.Values.{write-next, write-end, unmapped}
-use Rattle.symplectic.specs.Actions.{qubits, matrix}
+use Rattle.blocks.specs.Blocks.{room, vals}
+use Rattle.blocks.proofs.Values.{rows-are, write-next, write-end, unmapped}
+use Rattle.symplectic.specs.Actions.{maxQubits, qubits, matrix}
 use Rattle.symplectic.proofs.Arrays.{qubits-le, matrix-length, matrix-get}
 use Rattle.reduction.specs.Residue.{residue}
 use Rattle.reduction.proofs.Core.{residue-length}
@@ -20,23 +19,23 @@ use Rattle.reduction.proofs.residue.Tie as tie
 
 abbrev Inv-loop : tie.InvT-loop
 Inv-loop a n m r₀ i₀ r i =
-    (i ≤ m) × (m ≡ n + n) × (n ≡ qubits a) × (n ≤ 32) × (length (r .rows) ≡ 65) × (take i (vals (r .rows)) ≡ take i (residue (qubits a) (matrix a)))
+    (i ≤ m) × (m ≡ n + n) × (n ≡ qubits a) × (n ≤ maxQubits) × (length (r .rows) ≡ room) × (take i (vals (r .rows)) ≡ take i (residue (qubits a) (matrix a)))
 
 abbrev μ-loop : tie.MeasureT-loop
 μ-loop a n m r₀ i₀ r i = m - i
 
-width-requires : tie.Need-width-requires Inv-loop μ-loop
-width-requires c κs = search needs
+qubits-of-requires : tie.Need-qubits-of-requires Inv-loop μ-loop
+qubits-of-requires c κs = search needs
 
 add-m : tie.Need-add-m Inv-loop μ-loop
-add-m c = omega (arith, qubits-le (c .before .args .t1), c .width .ensures)
+add-m c = omega (arith, qubits-le (c .before .args .t1), c .qubits-of .ensures)
 
 empty-requires : tie.Need-empty-requires Inv-loop μ-loop
 empty-requires c κs = search needs
 
 loop-holds : tie.Need-loop-holds Inv-loop μ-loop
 loop-holds c =
-    let e = c .before .width .ensures in
+    let e = c .before .qubits-of .ensures in
     (search needs, refl, e, omega (arith, e, qubits-le (c .before .before .args .t1)), search (needs, unmapped), refl)
 
 other-half-requires : tie.Need-other-half-requires Inv-loop μ-loop
@@ -67,7 +66,6 @@ loop-less : tie.Need-loop-less Inv-loop μ-loop
 loop-less c = search needs
 
 loop-again : tie.Need-loop-again Inv-loop μ-loop
-unfolding width
 loop-again c =
     let at = c .before .before .before .before .before .loop in
     let a = c .before .before .before .before .before .before .before .before .args .t1 in
@@ -83,17 +81,16 @@ loop-again c =
       write-next (residue (qubits a) (matrix a)) (at .r .rows) (at .i) (c .sum .result)
           (omega (arith, residue-length (qubits a) (matrix a) size, at .inv .2)) (omega (arith, at .inv .4)) (at .inv .5)
           (c .sum .ensures ∙ ap₂ _⊕_ (matrix-get a j h) (c .before .unit .ensures ∙ unit-is j (omega (arith, at .inv .3, o .ensures .0)))
-          ∙ residue-at (qubits a) (matrix a) size (c .before .before .before .before .before .before .before .width .result) (at .i) j (at .inv .2) (o .ensures .0) (o .ensures .1)),
+          ∙ residue-at (qubits a) (matrix a) size (c .before .before .before .before .before .before .before .qubits-of .result) (at .i) j (at .inv .2) (o .ensures .0) (o .ensures .1)),
     )
 
 returns : tie.Need-returns Inv-loop μ-loop
-unfolding rowsOf
 returns c =
     let at = c .before .loop in
     let a = c .before .before .before .before .args .t1 in
-    let n = c .before .before .before .width .result in
+    let n = c .before .before .before .qubits-of .result in
     let size = matrix-length a (search (needs, unmapped)) in
-    write-end (residue (qubits a) (matrix a)) (at .r .rows) (at .i) (n + n) (omega arith) (omega (arith, residue-length (qubits a) (matrix a) size, at .inv .2)) (at .inv .5)
+    rows-are _ ∙ write-end (residue (qubits a) (matrix a)) (at .r .rows) (at .i) (n + n) (omega arith) (omega (arith, residue-length (qubits a) (matrix a) size, at .inv .2)) (at .inv .5)
 
 pub residue-spec : {M : Type 1} → statement M
 residue-spec =
@@ -101,7 +98,7 @@ residue-spec =
     (tie.spec
     Inv-loop
     μ-loop
-    width-requires
+    qubits-of-requires
     add-m
     empty-requires
     loop-holds

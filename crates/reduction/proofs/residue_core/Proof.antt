@@ -5,7 +5,7 @@ use lib.ListN.{length, take}
 use Rattle.binar.specs.Rows.{width}
 use Rattle.blocks.proofs.Values.{unmapped}
 use Rattle.blocks.specs.Blocks.{rowsOf}
-use Rattle.symplectic.specs.Actions.{qubits, matrix}
+use Rattle.symplectic.specs.Actions.{mostRows, qubits, matrix}
 use Rattle.symplectic.proofs.Arrays.{qubits-le, matrix-length}
 use Rattle.reduction.specs.Residue.{timesTransposed}
 use Rattle.reduction.proofs.Parts.{basis-end, core-end}
@@ -14,14 +14,14 @@ use borrow.Author.Needs.{needs}
 use Rattle.reduction.proofs.residue_core.Statement.{statement}
 use Rattle.reduction.proofs.residue_core.Tie as tie
 
-long : (c : tie.Start) → length (c .args .a .rows) ≡ 64
+long : (c : tie.Start) → length (c .args .a .rows) ≡ mostRows
 long c = search (needs, unmapped)
 
-width-requires : tie.Need-width-requires
-width-requires c κs = search needs
+qubits-of-requires : tie.Need-qubits-of-requires
+qubits-of-requires c κs = search needs
 
 add-row-reduce-with-transform : tie.Need-add-row-reduce-with-transform
-add-row-reduce-with-transform c = omega (arith, qubits-le (c .before .args .a), c .width .ensures)
+add-row-reduce-with-transform c = omega (arith, qubits-le (c .before .args .a), c .qubits-of .ensures)
 
 residue-requires : tie.Need-residue-requires
 residue-requires c κs = search needs
@@ -41,8 +41,8 @@ times-transposed-requires c κs = search needs
 returns : tie.Need-returns
 returns c =
     let a = c .before .before .before .before .before .before .args .a in
-    let n = c .before .before .before .before .before .width .result in
-    let same = c .before .before .before .before .before .width .ensures in
+    let n = c .before .before .before .before .before .qubits-of .result in
+    let same = c .before .before .before .before .before .qubits-of .ensures in
     let M = rowsOf (c .before .before .before .before .residue .result) in
     let is = c .before .before .before .before .residue .ensures in
     let r = c .before .before .before .row-reduce-with-transform .result in
@@ -59,7 +59,7 @@ pub residue-core-spec : {M : Type 1} → statement M
 residue-core-spec =
     tie.close
     (tie.spec
-    width-requires
+    qubits-of-requires
     add-row-reduce-with-transform
     residue-requires
     row-reduce-with-transform-requires

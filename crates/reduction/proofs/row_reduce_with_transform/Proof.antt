@@ -25,19 +25,17 @@ identity-requires c κs = search needs
 
 -- as many unit rows as there are rows
 start : (c : tie.After-identity) → rowsOf (c .identity .result) ≡ units (length (rowsOf (c .before .before .first-rows .result)))
-unfolding width
 start c =
     let from = c .before .before in
     let k = c .before .length-of .result in
-    let short : length (rowsOf (from .first-rows .result)) ≤ 64 = omega (arith, ap length (from .first-rows .ensures), length-take 64 (rowsOf (from .before .args .matrix))) in
-    let e : min k 64 ≡ length (rowsOf (from .first-rows .result)) = omega (arith, c .before .length-of .ensures) in
+    let short : length (rowsOf (from .first-rows .result)) ≤ width = omega (arith, ap length (from .first-rows .ensures), length-take width (rowsOf (from .before .args .matrix))) in
+    let e : min k width ≡ length (rowsOf (from .first-rows .result)) = omega (arith, c .before .length-of .ensures) in
     c .identity .ensures ∙ ap units e
 
 by-columns-requires : tie.Need-by-columns-requires
 by-columns-requires c κs = let n = length (rowsOf (c .before .before .first-rows .result)) in sym (ap length (start c) ∙ units-length n)
 
 returns : tie.Need-returns
-unfolding width
 returns c =
     let from = c .before .before .before in
     let s = from .before .args in
@@ -45,7 +43,7 @@ returns c =
     let e = c .by-columns .ensures in
     let R = rowsOf (r .rows) in
     let T = rowsOf (r .transform) in
-    let M = take 64 (rowsOf (s .matrix)) in
+    let M = take width (rowsOf (s .matrix)) in
     let h = rowReduceWithTransform (s .m) M in
     let is = e .2 ∙ begun (s .m) M (rowsOf (from .first-rows .result)) (rowsOf (c .before .identity .result)) (from .first-rows .ensures) (start (c .before)) in
     (rows-of (r .rank) R T h (e .0) is, transform-of (r .rank) R T h (e .0) is, rank-of (r .rank) R T h (e .0) is (e .1))

@@ -4,9 +4,9 @@ use mathlib.Core.Path.{_≡_, refl, sym, ap, _∙_}
 use Prim.Native.Nat.{_-_, _≤_, _<_}
 use lib.ListN.{length, take, length-map, length-set}
 use Rattle.binar.specs.Rows.{width}
-use Rattle.blocks.specs.Blocks.{vals, rowsOf}
+use Rattle.blocks.specs.Blocks.{room, vals, rowsOf}
 use Rattle.blocks.specs.Matrices.{dots}
-use Rattle.blocks.proofs.Values.{rows-fit, rows-get, write-next, write-end, map-get, unmapped}
+use Rattle.blocks.proofs.Values.{rows-are, rows-fit, rows-get, write-next, write-end, map-get, unmapped}
 use Rattle.reduction.specs.Residue.{timesTransposed}
 use native.Mathlib.Omega.{arith}
 use borrow.Author.Needs.{needs}
@@ -15,7 +15,7 @@ use Rattle.reduction.proofs.times_transposed.Tie as tie
 
 abbrev Inv-loop : tie.InvT-loop
 Inv-loop r b k n₀ i₀ n i =
-    (i ≤ k) × (k ≤ 65) × (length (n .rows) ≡ 65) × (take i (vals (n .rows)) ≡ take i (timesTransposed (rowsOf b) (take width (rowsOf r))))
+    (i ≤ k) × (k ≤ room) × (length (n .rows) ≡ room) × (take i (vals (n .rows)) ≡ take i (timesTransposed (rowsOf b) (take width (rowsOf r))))
 
 abbrev μ-loop : tie.MeasureT-loop
 μ-loop r b k n₀ i₀ n i = k - i
@@ -67,14 +67,14 @@ loop-again c =
     )
 
 returns : tie.Need-returns Inv-loop μ-loop
-unfolding rowsOf timesTransposed
+unfolding timesTransposed
 returns c =
     let at = c .before .loop in
     let s = c .before .before .before .before .args in
     let B = rowsOf (s .t1) in
     let R = take width (rowsOf (s .r)) in
     let k = c .before .before .before .length-of in
-    write-end (timesTransposed B R) (at .n .rows) (at .i) (k .result) (omega arith) (k .ensures ∙ sym (length-map B (dots R))) (at .inv .3)
+    rows-are _ ∙ write-end (timesTransposed B R) (at .n .rows) (at .i) (k .result) (omega arith) (k .ensures ∙ sym (length-map B (dots R))) (at .inv .3)
 
 pub times-transposed-spec : {M : Type 1} → statement M
 times-transposed-spec =

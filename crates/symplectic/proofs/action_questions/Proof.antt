@@ -1,11 +1,15 @@
 -- `action_questions` answers the first question that is answered no, by the laws of each question.
 -- Assumes nothing.
-use mathlib.Core.Path.{_≡_, sym, ap₂, _∙_}
+use mathlib.Core.Path.{_≡_, sym, ap, ap₂, _∙_}
 use mathlib.Core.List.{List}
 use Prim.Native.Nat.{ℕ, _+_}
 use native.Mathlib.Omega.{arith}
+use lib.ListN.{length}
+use lib.Seq.{take-all}
 use borrow.Author.Tests.{not-true, not-false}
+use Rattle.blocks.specs.Blocks.{room}
 use Rattle.blocks.specs.Words.{rowsOfWords}
+use Rattle.blocks.proofs.Values.{rows-count}
 use Rattle.symplectic.specs.Turns.{symplectic}
 use Rattle.symplectic.specs.Answers.{numberOf}
 use Rattle.symplectic.specs.Replies.{fitAll}
@@ -15,62 +19,65 @@ use borrow.Author.Needs.{needs}
 use Rattle.symplectic.proofs.action_questions.Statement.{statement}
 use Rattle.symplectic.proofs.action_questions.Tie as tie
 
--- the two tests of the code are those of the questions
-fit : (c : tie.After-fit-all) → fitAll (c .before .before .before .before .args .n + c .before .before .before .before .args .n) (c .before .before .before .before .args .words .now) ≡ c .fit-all .result
-unfolding rowsOfWords
-fit c = sym (c .fit-all .ensures)
+-- exactly 2n rows are lent
+size : (c : tie.Else2) → let s = c .before .before .before .args in length (rowsOfWords (s .n) (s .words .now)) ≡ s .n + s .n
+size c = let s = c .before .before .before .args in rows-count (s .n) (s .words .now) ∙ omega arith
 
-tested : (c : tie.After-is-symplectic)
-    → symplectic (c .before .before .before .before .before .before .before .args .n) (c .before .before .before .before .before .before .before .args .words .now) ≡ c .is-symplectic .result
-unfolding rowsOfWords
+-- the two tests of the code are those of the questions
+fit : (c : tie.After-fit-all) → let s = c .before .before .before .before .before .args in fitAll (s .n + s .n) (rowsOfWords (s .n) (s .words .now)) ≡ c .fit-all .result
+fit c =
+    let s = c .before .before .before .before .before .args in
+    let rows = rowsOfWords (s .n) (s .words .now) in
+    let h = size (c .before .before) in
+    sym (c .fit-all .ensures ∙ ap (fitAll (s .n + s .n)) (c .before .from-words .ensures ∙ take-all room rows (omega arith)))
+
+tested : (c : tie.After-is-symplectic) → let s = c .before .before .before .before .before .before .before .before .args in symplectic (s .n) (rowsOfWords (s .n) (s .words .now)) ≡ c .is-symplectic .result
 tested c =
-    let s = c .before .before .before .before .before .before .before .args in
-    let e = c .before .load .ensures in
-    let same = loaded (c .before .load .result) (s .n) (s .words .now) (search needs) (omega arith) (e .0) (e .1) in
+    let s = c .before .before .before .before .before .before .before .before .args in
+    let e = c .before .from-words2 .ensures in
+    let same = loaded (c .before .from-words2 .result) (s .n) (rowsOfWords (s .n) (s .words .now)) (search needs) (size (c .before .before .before .before .before)) (e .0) (e .1) in
     sym (c .is-symplectic .ensures ∙ ap₂ (λ (n : ℕ) (F : List ℕ). symplectic n F) (same .0) (same .1))
 
 returns : tie.Need-returns
-unfolding numberOf rowsOfWords
-returns c = sym (question-1 (c .before .before .args .n) (c .before .before .args .words .now) (search needs))
+returns c = let s = c .before .before .args in sym (question-1 (s .n) (rowsOfWords (s .n) (s .words .now)) (search needs))
 
 add-m : tie.Need-add-m
 add-m c = search needs
 
 returns-2 : tie.Need-returns-2
-unfolding numberOf rowsOfWords
 returns-2 c =
     let s = c .before .before .before .args in
-    sym (question-2 (s .n) (s .words .now) (search needs) (c .if2 .taken))
+    sym (question-2 (s .n) (rowsOfWords (s .n) (s .words .now)) (search needs) (λ e. c .if2 .taken (sym (rows-count (s .n) (s .words .now)) ∙ e)))
+
+from-words-requires : tie.Need-from-words-requires
+from-words-requires c κs = search needs
 
 fit-all-requires : tie.Need-fit-all-requires
 fit-all-requires c κs = search needs
 
 returns-3 : tie.Need-returns-3
-unfolding numberOf rowsOfWords
 returns-3 c =
-    let s = c .before .before .before .before .before .args in
-    sym (question-3 (s .n) (s .words .now) (search needs) (omega arith) (fit (c .before) ∙ not-true (c .before .fit-all .result) (c .if3 .taken)))
+    let s = c .before .before .before .before .before .before .args in
+    sym (question-3 (s .n) (rowsOfWords (s .n) (s .words .now)) (search needs) (size (c .before .before .before)) (fit (c .before) ∙ not-true (c .before .fit-all .result) (c .if3 .taken)))
 
-load-requires : tie.Need-load-requires
-load-requires c κs = search needs
+from-words-requires-2 : tie.Need-from-words-requires-2
+from-words-requires-2 c κs = search needs
 
 is-symplectic-requires : tie.Need-is-symplectic-requires
 is-symplectic-requires c κs = search needs
 
 returns-4 : tie.Need-returns-4
-unfolding numberOf rowsOfWords
 returns-4 c =
-    let s = c .before .before .before .before .before .before .before .before .args in
+    let s = c .before .before .before .before .before .before .before .before .before .args in
     let f = c .before .before .before .before in
-    sym (question-4 (s .n) (s .words .now) (search needs) (omega arith) (fit f ∙ not-false (f .fit-all .result) (c .before .before .before .if3 .left))
+    sym (question-4 (s .n) (rowsOfWords (s .n) (s .words .now)) (search needs) (size (f .before .before)) (fit f ∙ not-false (f .fit-all .result) (c .before .before .before .if3 .left))
     (tested (c .before) ∙ not-true (c .before .is-symplectic .result) (c .if4 .taken)))
 
 returns-5 : tie.Need-returns-5
-unfolding numberOf rowsOfWords
 returns-5 c =
-    let s = c .before .before .before .before .before .before .before .before .args in
+    let s = c .before .before .before .before .before .before .before .before .before .args in
     let f = c .before .before .before .before in
-    sym (questions-passed (s .n) (s .words .now) (search needs) (omega arith) (fit f ∙ not-false (f .fit-all .result) (c .before .before .before .if3 .left))
+    sym (questions-passed (s .n) (rowsOfWords (s .n) (s .words .now)) (search needs) (size (f .before .before)) (fit f ∙ not-false (f .fit-all .result) (c .before .before .before .if3 .left))
     (tested (c .before) ∙ not-false (c .before .is-symplectic .result) (c .if4 .left)))
 
 pub action-questions-spec : {M : Type 1} → statement M
@@ -80,9 +87,10 @@ action-questions-spec =
     returns
     add-m
     returns-2
+    from-words-requires
     fit-all-requires
     returns-3
-    load-requires
+    from-words-requires-2
     is-symplectic-requires
     returns-4
     returns-5)

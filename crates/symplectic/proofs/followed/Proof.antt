@@ -8,7 +8,7 @@ use lib.ListN.{length, take, drop}
 use Rattle.binar.specs.Rows.{val}
 use Rattle.blocks.specs.Blocks.{vals}
 use Rattle.blocks.proofs.Values.{vals-length, unmapped}
-use Rattle.symplectic.specs.Actions.{capped, qubits, matrix}
+use Rattle.symplectic.specs.Actions.{mostRows, capped, qubits, matrix}
 use Rattle.symplectic.specs.Turns.{turn, followed}
 use Rattle.symplectic.proofs.Pairings.{swap-turn}
 use Rattle.symplectic.proofs.Products.{followed-length}
@@ -19,25 +19,25 @@ use Rattle.symplectic.proofs.followed.Tie as tie
 
 abbrev Inv-loop : tie.InvT-loop
 Inv-loop v b₀ n count s i₀ b i =
-    (i ≤ count) × (count ≤ 64) × (b .n ≡ b₀ .n) × (vals (b .rows) ≡ take i (followed n (vals (b₀ .rows)) (val v)) ++ drop i (vals (b₀ .rows)))
+    (i ≤ count) × (count ≤ mostRows) × (b .n ≡ b₀ .n) × (vals (b .rows) ≡ take i (followed n (vals (b₀ .rows)) (val v)) ++ drop i (vals (b₀ .rows)))
 
 abbrev μ-loop : tie.MeasureT-loop
 μ-loop v b₀ n count s i₀ b i = count - i
 
-long64 : (c : tie.Start Inv-loop μ-loop) → length (c .args .a .rows) ≡ 64
-long64 c = search (needs, unmapped)
+long : (c : tie.Start Inv-loop μ-loop) → length (c .args .a .rows) ≡ mostRows
+long c = search (needs, unmapped)
 
-width-requires : tie.Need-width-requires Inv-loop μ-loop
-width-requires c κs = search needs
+qubits-of-requires : tie.Need-qubits-of-requires Inv-loop μ-loop
+qubits-of-requires c κs = search needs
 
 add-count : tie.Need-add-count Inv-loop μ-loop
-add-count c = omega (arith, qubits-le (c .before .args .a), c .width .ensures)
+add-count c = omega (arith, qubits-le (c .before .args .a), c .qubits-of .ensures)
 
 swap-halves-requires : tie.Need-swap-halves-requires Inv-loop μ-loop
-swap-halves-requires c κs = omega (arith, qubits-le (c .before .args .a), c .width .ensures)
+swap-halves-requires c κs = omega (arith, qubits-le (c .before .args .a), c .qubits-of .ensures)
 
 loop-holds : tie.Need-loop-holds Inv-loop μ-loop
-loop-holds c = (search needs, omega (arith, qubits-le (c .before .before .args .a), c .before .width .ensures), refl, refl)
+loop-holds c = (search needs, omega (arith, qubits-le (c .before .before .args .a), c .before .qubits-of .ensures), refl, refl)
 
 mul-u : tie.Need-mul-u Inv-loop μ-loop
 mul-u c = search needs
@@ -64,10 +64,10 @@ loop-again : tie.Need-loop-again Inv-loop μ-loop
 loop-again c =
     let s = c .before .before .before .before .before .before .args in
     let at = c .before .before .before .loop in
-    let n = c .before .before .before .before .before .width .result in
+    let n = c .before .before .before .before .before .qubits-of .result in
     let l = vals (s .a .rows) in
     let m = followed n l (val (s .v)) in
-    let long = long64 (c .before .before .before .before .before .before) in
+    let long = long (c .before .before .before .before .before .before) in
     let turned = c .turned .ensures ∙ swap-turn n (val (s .v)) _ _ (c .before .before .before .before .swap-halves .ensures) in
     let hl : at .i < length l = omega (arith, vals-length (s .a .rows)) in
     let hm : at .i < length m = omega (arith, followed-length n l (val (s .v))) in (
@@ -83,12 +83,12 @@ unfolding qubits matrix
 returns c =
     let s = c .before .before .before .before .args in
     let at = c .before .loop in
-    let n = c .before .before .before .width .result in
+    let n = c .before .before .before .qubits-of .result in
     let q = qubits (s .a) in
     let l = vals (s .a .rows) in
     let m = followed n l (val (s .v)) in
-    let long = long64 (c .before .before .before .before) in
-    let e : n ≡ q = c .before .before .before .width .ensures in
+    let long = long (c .before .before .before .before) in
+    let e : n ≡ q = c .before .before .before .qubits-of .ensures in
     let same : capped (at .b .n) ≡ q = ap capped (at .inv .2) in (
       same,
       ap₂ (λ (k : ℕ) (x : List ℕ). take (k + k) x) same (at .inv .3)
@@ -102,7 +102,7 @@ followed-spec =
     (tie.spec
     Inv-loop
     μ-loop
-    width-requires
+    qubits-of-requires
     add-count
     swap-halves-requires
     loop-holds

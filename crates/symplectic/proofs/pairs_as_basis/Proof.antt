@@ -10,8 +10,9 @@ use Rattle.binar.specs.Bits.{bit, dot}
 use Rattle.binar.specs.Rows.{width}
 use Rattle.binar.proofs.Ones.{unit-is}
 use Rattle.blocks.proofs.Values.{unmapped}
-use Rattle.symplectic.specs.Actions.{qubits, matrix}
-use Rattle.symplectic.specs.Turns.{pairing, swapHalves}
+use Rattle.symplectic.specs.Actions.{mostRows, qubits, matrix}
+use Rattle.symplectic.specs.Turns.{pairing}
+use Rattle.symplectic.specs.inner.Vectors.{swapHalves}
 use Rattle.symplectic.proofs.Pairings.{swap-pairing, swap-basis}
 use Rattle.symplectic.proofs.Arrays.{qubits-le, matrix-length, matrix-get}
 use Rattle.symplectic.proofs.Tests.{pairsBelow, basis-next, basis-fails, basis-end}
@@ -20,7 +21,7 @@ use Rattle.symplectic.proofs.pairs_as_basis.Statement.{statement}
 use Rattle.symplectic.proofs.pairs_as_basis.Tie as tie
 
 abbrev Inv-loop : tie.InvT-loop
-Inv-loop i a n count s e j₀ j = (j ≤ count) × (count ≤ 64) × (i < 64) × (pairsBelow (qubits a) (matrix a) i j ≡ true)
+Inv-loop i a n count s e j₀ j = (j ≤ count) × (count ≤ mostRows) × (i < mostRows) × (pairsBelow (qubits a) (matrix a) i j ≡ true)
 
 abbrev μ-loop : tie.MeasureT-loop
 μ-loop i a n count s e j₀ j = count - j
@@ -29,7 +30,7 @@ size : (c : tie.Start Inv-loop μ-loop) → length (matrix (c .args .t1)) ≡ qu
 size c = matrix-length (c .args .t1) (search (needs, unmapped))
 
 below : (c : tie.After-bit Inv-loop μ-loop) → c .before .before .before .before .loop .j < qubits (c .before .before .before .before .before .before .before .before .before .before .args .t1) + qubits (c .before .before .before .before .before .before .before .before .before .before .args .t1)
-below c = omega (arith, c .before .before .before .before .before .before .before .before .before .width .ensures)
+below c = omega (arith, c .before .before .before .before .before .before .before .before .before .qubits-of .ensures)
 
 -- the code's two tests are the pairings of the rows and of their basis vectors
 tested : (c : tie.After-bit Inv-loop μ-loop)
@@ -37,12 +38,11 @@ tested : (c : tie.After-bit Inv-loop μ-loop)
     (pairing (qubits (c .before .before .before .before .before .before .before .before .before .before .args .t1)) (getD (matrix (c .before .before .before .before .before .before .before .before .before .before .args .t1)) (c .before .before .before .before .before .before .before .before .before .before .args .i) 0) (getD (matrix (c .before .before .before .before .before .before .before .before .before .before .args .t1)) (c .before .before .before .before .loop .j) 0))
     (pairing (qubits (c .before .before .before .before .before .before .before .before .before .before .args .t1)) (2 ^ c .before .before .before .before .before .before .before .before .before .before .args .i) (2 ^ c .before .before .before .before .loop .j))
     ≡ Bool·beq (c .before .dot .result) (c .bit .result)
-unfolding width
 tested c =
     let s = c .before .before .before .before .before .before .before .before .before .before .args in
     let j = c .before .before .before .before .loop .j in
-    let n = c .before .before .before .before .before .before .before .before .before .width .result in
-    let e = c .before .before .before .before .before .before .before .before .before .width .ensures in
+    let n = c .before .before .before .before .before .before .before .before .before .qubits-of .result in
+    let e = c .before .before .before .before .before .before .before .before .before .qubits-of .ensures in
     let F = matrix (s .t1) in
     let first = c .before .dot .ensures
     ∙ ap₂ dot (matrix-get (s .t1) j (below c)) (c .before .before .before .before .before .before .before .swap-halves .ensures ∙ ap (swapHalves n) (matrix-get (s .t1) (s .i) (search needs)))
@@ -52,11 +52,11 @@ tested c =
     ∙ swap-basis n (s .i) j ∙ ap (λ (k : ℕ). pairing k (2 ^ s .i) (2 ^ j)) e in
     sym (ap₂ Bool·beq first second)
 
-width-requires : tie.Need-width-requires Inv-loop μ-loop
-width-requires c κs = search needs
+qubits-of-requires : tie.Need-qubits-of-requires Inv-loop μ-loop
+qubits-of-requires c κs = search needs
 
 add-count : tie.Need-add-count Inv-loop μ-loop
-add-count c = omega (arith, qubits-le (c .before .args .t1), c .width .ensures)
+add-count c = omega (arith, qubits-le (c .before .args .t1), c .qubits-of .ensures)
 
 mul-u : tie.Need-mul-u Inv-loop μ-loop
 mul-u c = omega (arith, qubits-le (c .before .args .t1))
@@ -65,19 +65,19 @@ element-copy-out-u : tie.Need-element-copy-out-u Inv-loop μ-loop
 element-copy-out-u c = omega (arith, qubits-le (c .before .args .t1))
 
 swap-halves-requires : tie.Need-swap-halves-requires Inv-loop μ-loop
-swap-halves-requires c κs = omega (arith, qubits-le (c .before .before .args .t1), c .before .width .ensures)
+swap-halves-requires c κs = omega (arith, qubits-le (c .before .before .args .t1), c .before .qubits-of .ensures)
 
 unit-requires : tie.Need-unit-requires Inv-loop μ-loop
 unit-requires c κs = search needs
 
 swap-halves-requires-2 : tie.Need-swap-halves-requires-2 Inv-loop μ-loop
-swap-halves-requires-2 c κs = omega (arith, qubits-le (c .before .before .before .before .args .t1), c .before .before .before .width .ensures)
+swap-halves-requires-2 c κs = omega (arith, qubits-le (c .before .before .before .before .args .t1), c .before .before .before .qubits-of .ensures)
 
 loop-holds : tie.Need-loop-holds Inv-loop μ-loop
 unfolding pairsBelow
 loop-holds c =
     let h = qubits-le (c .before .before .before .before .before .args .t1) in
-    (search needs, omega (arith, c .before .before .before .before .width .ensures), omega arith, refl)
+    (search needs, omega (arith, c .before .before .before .before .qubits-of .ensures), omega arith, refl)
 
 mul-v : tie.Need-mul-v Inv-loop μ-loop
 mul-v c = search needs
@@ -120,7 +120,7 @@ returns-2 : tie.Need-returns-2 Inv-loop μ-loop
 returns-2 c =
     let s = c .before .before .before .before .before .before .before in
     let at = c .before .loop in
-    basis-end (qubits (s .args .t1)) (matrix (s .args .t1)) (size s) (s .args .i) (at .j) (omega (arith, c .before .before .before .before .before .before .width .ensures)) (at .inv .3)
+    basis-end (qubits (s .args .t1)) (matrix (s .args .t1)) (size s) (s .args .i) (at .j) (omega (arith, c .before .before .before .before .before .before .qubits-of .ensures)) (at .inv .3)
 
 pub pairs-as-basis-spec : {M : Type 1} → statement M
 pairs-as-basis-spec =
@@ -128,7 +128,7 @@ pairs-as-basis-spec =
     (tie.spec
     Inv-loop
     μ-loop
-    width-requires
+    qubits-of-requires
     add-count
     mul-u
     element-copy-out-u

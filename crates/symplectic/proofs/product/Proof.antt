@@ -1,70 +1,76 @@
--- `product` applies the turns of the list in order, by `product-next`.
+-- `product` applies the turns of the rows in order, by `product-next`.
 -- Assumes nothing.
-use mathlib.Core.Path.{_≡_, sym, ap, ap₂, _∙_}
-use mathlib.Core.List.{List}
-use Prim.Native.Nat.{ℕ, _-_, _≤_}
-use native.Mathlib.Numerals.{add-one}
-use native.Mathlib.Omega.{arith}
-use lib.ListN.{take}
-use lib.Seq.{take-all}
-use Rattle.binar.specs.Rows.{val}
-use Rattle.blocks.specs.Words.{rowsOfWords}
-use Rattle.symplectic.specs.Actions.{capped, qubits, matrix}
-use Rattle.symplectic.specs.Turns.{followed, product}
 use Rattle.symplectic.proofs.Products.{product-nil, product-next}
+use Rattle.symplectic.specs.Turns.{followed, product}
+use Rattle.symplectic.specs.Actions.{capped, qubits, matrix}
+use Rattle.blocks.specs.Blocks.{room, rowsOf}
+use Rattle.blocks.proofs.Values.{rows-get, rows-fit, unmapped}
+use Rattle.binar.specs.Rows.{val}
+use Rattle.binar.specs.inner.Blank.{blank}
+use lib.Seq.{take-all}
+use lib.ListN.{length, getD, take}
+use native.Mathlib.Numerals.{add-one}
+use Prim.Native.Nat.{ℕ, _-_, _≤_, _<_}
+use mathlib.Core.List.{List}
+use mathlib.Core.Path.{_≡_, sym, ap, ap₂, _∙_}
+use native.Mathlib.Omega.{arith}
 use borrow.Author.Needs.{needs}
 use Rattle.symplectic.proofs.product.Statement.{statement}
 use Rattle.symplectic.proofs.product.Tie as tie
 
 abbrev Inv-loop : tie.InvT-loop
-Inv-loop n list a₀ i₀ i-end a i = (i ≤ i-end) × (qubits a ≡ capped n) × (matrix a ≡ product (capped n) (take i list))
+Inv-loop n b k a₀ t₀ a t = (t ≤ k) × (k ≤ room) × (qubits a ≡ capped n) × (matrix a ≡ product (capped n) (take t (rowsOf b)))
 
 abbrev μ-loop : tie.MeasureT-loop
-μ-loop n list a₀ i₀ i-end a i = i-end - i
+μ-loop n b k a₀ t₀ a t = k - t
+
+length-of-requires : tie.Need-length-of-requires Inv-loop μ-loop
+length-of-requires c κs = search needs
 
 identity-requires : tie.Need-identity-requires Inv-loop μ-loop
 identity-requires c κs = search needs
 
 loop-holds : tie.Need-loop-holds Inv-loop μ-loop
-loop-holds c = (search needs, c .identity .ensures .0, c .identity .ensures .1 ∙ sym (product-nil (capped (c .before .before .args .n))))
+loop-holds c =
+    let h = rows-fit (c .before .before .args .t2) (search (needs, unmapped)) in
+    (search needs, omega (arith, c .before .length-of .ensures), c .identity .ensures .0, c .identity .ensures .1 ∙ sym (product-nil (capped (c .before .before .args .n))))
 
-mul-of-word : tie.Need-mul-of-word Inv-loop μ-loop
-mul-of-word c = search needs
+mul-followed : tie.Need-mul-followed Inv-loop μ-loop
+mul-followed c = search needs
 
-shared-slice-read-of-word : tie.Need-shared-slice-read-of-word Inv-loop μ-loop
-shared-slice-read-of-word c = search needs
-
-of-word-requires : tie.Need-of-word-requires Inv-loop μ-loop
-of-word-requires c κs = search needs
+element-copy-out-followed : tie.Need-element-copy-out-followed Inv-loop μ-loop
+element-copy-out-followed c = search needs
 
 followed-requires : tie.Need-followed-requires Inv-loop μ-loop
 followed-requires c κs = search needs
 
-add-i : tie.Need-add-i Inv-loop μ-loop
-add-i c = search needs
+add-t : tie.Need-add-t Inv-loop μ-loop
+add-t c = search needs
 
 loop-less : tie.Need-loop-less Inv-loop μ-loop
 loop-less c = search needs
 
 loop-again : tie.Need-loop-again Inv-loop μ-loop
 loop-again c =
-    let s = c .before .before .before .before .before .before .before .args in
-    let at = c .before .before .before .before .loop in
+    let s = c .before .before .before .before .before .before .args in
+    let at = c .before .before .before .loop in
     let q = capped (s .n) in
-    let vs = s .list .now in (
+    let vs = rowsOf (s .t2) in
+    let v = val (getD (s .t2 .rows) (at .t) blank) in
+    let h : at .t < length vs = omega (arith, c .before .before .before .before .before .length-of .ensures) in (
       search needs,
-      c .followed .ensures .0 ∙ at .inv .1,
-      c .followed .ensures .1 ∙ ap (λ (k : ℕ). followed k (matrix (at .a)) (val (c .before .of-word .result))) (at .inv .1)
-          ∙ ap₂ (λ (F : List ℕ) (v : ℕ). followed q F v) (at .inv .2) (c .before .of-word .ensures)
-          ∙ sym (ap (λ (k : ℕ). product q (take k vs)) (add-one (at .i)) ∙ product-next q vs (at .i) (search needs)),
+      at .inv .1,
+      c .followed .ensures .0 ∙ at .inv .2,
+      c .followed .ensures .1 ∙ ap (λ (k : ℕ). followed k (matrix (at .a)) v) (at .inv .2)
+          ∙ ap₂ (λ (F : List ℕ) (v : ℕ). followed q F v) (at .inv .3) (rows-get (s .t2) (at .t) h)
+          ∙ sym (ap (λ (k : ℕ). product q (take k vs)) (add-one (at .t)) ∙ product-next q vs (at .t) h),
     )
 
 returns : tie.Need-returns Inv-loop μ-loop
-unfolding rowsOfWords
 returns c =
     let s = c .before .before .before .before .args in
     let at = c .before .loop in
-    (at .inv .1, at .inv .2 ∙ ap (product (capped (s .n))) (take-all (at .i) (s .list .now) (omega arith)))
+    (at .inv .2, at .inv .3 ∙ ap (product (capped (s .n))) (take-all (at .t) (rowsOf (s .t2)) (omega (arith, c .before .before .before .length-of .ensures))))
 
 pub product-spec : {M : Type 1} → statement M
 product-spec =
@@ -72,13 +78,13 @@ product-spec =
     (tie.spec
     Inv-loop
     μ-loop
+    length-of-requires
     identity-requires
     loop-holds
-    mul-of-word
-    shared-slice-read-of-word
-    of-word-requires
+    mul-followed
+    element-copy-out-followed
     followed-requires
-    add-i
+    add-t
     loop-less
     loop-again
     returns)

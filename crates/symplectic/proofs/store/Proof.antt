@@ -1,12 +1,13 @@
--- `store` lays the rows one by one, by `laid-more` and `laid-end`.
+-- `store` lays the rows one by one, by `laid-next` and `laid-end`.
 -- Assumes nothing.
-use mathlib.Core.Path.{_≡_, refl, ap₂, _∙_}
-use mathlib.Core.List.{List, _++_}
-use Prim.Native.Nat.{ℕ, _+_, _-_, _≤_, _<_}
+use mathlib.Core.Path.{_≡_, refl, _∙_}
+use mathlib.Core.List.{_++_}
+use Prim.Native.Nat.{_+_, _-_, _≤_, _<_}
 use native.Mathlib.Omega.{arith}
-use lib.ListN.{length, set, take, drop, length-set}
-use Rattle.blocks.proofs.Values.{laid-more, laid-end, unmapped}
-use Rattle.symplectic.specs.Actions.{qubits, matrix}
+use lib.ListN.{length, take, drop, length-set}
+use Rattle.blocks.proofs.Values.{laid-next, laid-end, unmapped}
+use Rattle.blocks.specs.Words.{wordsOfRows}
+use Rattle.symplectic.specs.Actions.{mostRows, qubits, matrix}
 use Rattle.symplectic.proofs.Arrays.{qubits-le, matrix-length, matrix-get}
 use borrow.Author.Needs.{needs}
 use Rattle.symplectic.proofs.store.Statement.{statement}
@@ -14,25 +15,25 @@ use Rattle.symplectic.proofs.store.Tie as tie
 
 abbrev Inv-loop : tie.InvT-loop
 Inv-loop out₀ a n count i₀ out i =
-    (i ≤ count) × (count ≤ 64) × (length out ≡ length out₀) × (out ≡ take i (matrix a) ++ drop i out₀)
+    (i ≤ count) × (count ≤ mostRows) × (length out ≡ length out₀) × (out ≡ take i (wordsOfRows (qubits a) (matrix a)) ++ drop i out₀)
 
 abbrev μ-loop : tie.MeasureT-loop
 μ-loop out₀ a n count i₀ out i = count - i
 
-long64 : (c : tie.Start Inv-loop μ-loop) → length (c .args .t1 .rows) ≡ 64
-long64 c = search (needs, unmapped)
+long : (c : tie.Start Inv-loop μ-loop) → length (c .args .t1 .rows) ≡ mostRows
+long c = search (needs, unmapped)
 
-width-requires : tie.Need-width-requires Inv-loop μ-loop
-width-requires c κs = search needs
+qubits-of-requires : tie.Need-qubits-of-requires Inv-loop μ-loop
+qubits-of-requires c κs = search needs
 
 add-lesser : tie.Need-add-lesser Inv-loop μ-loop
-add-lesser c = omega (arith, qubits-le (c .before .before .args .t1), c .width .ensures)
+add-lesser c = omega (arith, qubits-le (c .before .before .args .t1), c .qubits-of .ensures)
 
 lesser-requires : tie.Need-lesser-requires Inv-loop μ-loop
 lesser-requires c κs = search needs
 
 loop-holds : tie.Need-loop-holds Inv-loop μ-loop
-loop-holds c = (search needs, omega (arith, qubits-le (c .before .before .before .args .t1), c .before .width .ensures, c .lesser .ensures), refl, refl)
+loop-holds c = (search needs, omega (arith, qubits-le (c .before .before .before .args .t1), c .before .qubits-of .ensures, c .lesser .ensures), refl, refl)
 
 mul-u : tie.Need-mul-u Inv-loop μ-loop
 mul-u c = search needs
@@ -60,14 +61,14 @@ loop-again c =
     let s = c .before .before .before .before .before .before .before .args in
     let at = c .before .before .before .loop in
     let m = matrix (s .t1) in
-    let size = matrix-length (s .t1) (long64 (c .before .before .before .before .before .before .before)) in
+    let size = matrix-length (s .t1) (long (c .before .before .before .before .before .before .before)) in
     let e = c .before .before .before .before .lesser .ensures in
-    let h : at .i < qubits (s .t1) + qubits (s .t1) = omega (arith, e, c .before .before .before .before .before .width .ensures) in
+    let h : at .i < qubits (s .t1) + qubits (s .t1) = omega (arith, e, c .before .before .before .before .before .qubits-of .ensures) in
     let g : at .i < length (s .out .now) = omega (arith, e) in (
       search needs,
       search needs,
       simp length-set (at .inv .2),
-      ap₂ (λ (x : List ℕ) (v : ℕ). set x (at .i) v) (at .inv .3) (c .word .ensures ∙ matrix-get (s .t1) (at .i) h) ∙ laid-more m (s .out .now) (at .i) (omega arith) g,
+      laid-next (qubits (s .t1)) m (s .out .now) (at .out) (at .i) (c .word .result) _ (omega arith) g (at .inv .3) (c .word .ensures) (matrix-get (s .t1) (at .i) h),
     )
 
 same-length : tie.Need-same-length Inv-loop μ-loop
@@ -76,9 +77,9 @@ same-length c = search needs
 returns : tie.Need-returns Inv-loop μ-loop
 returns c =
     let s = c .before .before .before .before .before .args in
-    let size = matrix-length (s .t1) (long64 (c .before .before .before .before .before)) in
+    let size = matrix-length (s .t1) (long (c .before .before .before .before .before)) in
     c .before .loop .inv .3
-    ∙ laid-end (matrix (s .t1)) (s .out .now) (c .before .loop .i) (omega (arith, c .before .before .lesser .ensures, c .before .before .before .width .ensures))
+    ∙ laid-end (qubits (s .t1)) (matrix (s .t1)) (s .out .now) (c .before .loop .i) (omega (arith, c .before .before .lesser .ensures, c .before .before .before .qubits-of .ensures))
 
 pub store-spec : {M : Type 1} → statement M
 store-spec =
@@ -86,7 +87,7 @@ store-spec =
     (tie.spec
     Inv-loop
     μ-loop
-    width-requires
+    qubits-of-requires
     add-lesser
     lesser-requires
     loop-holds

@@ -3,7 +3,7 @@
 use mathlib.Core.Path.{ap, ap₂, _∙_}
 use Prim.Native.Nat.{ℕ, _*_, _%_, _^_}
 use Rattle.binar.specs.Bits.{_⊕_}
-use Rattle.binar.specs.Rows.{val, width}
+use Rattle.binar.specs.Rows.{val, rowBound}
 use Rattle.symplectic.specs.Turns.{xBits, zBits}
 use Rattle.symplectic.proofs.Pairings.{swap-rows}
 use borrow.Author.Needs.{needs}
@@ -26,12 +26,12 @@ sum-requires : tie.Need-sum-requires
 sum-requires c κs = search needs
 
 returns : tie.Need-returns
-unfolding width xBits zBits
+unfolding xBits zBits
 returns c =
     let s = c .before .before .before .before .before .args in
-    let x = c .before .shift-up .ensures ∙ ap (λ (t : ℕ). t * 2 ^ s .n % 2 ^ 64) (c .before .before .before .before .low .ensures) in
+    let x = c .before .shift-up .ensures ∙ ap (λ (t : ℕ). t * 2 ^ s .n % rowBound) (c .before .before .before .before .low .ensures) in
     let z = c .before .before .low2 .ensures ∙ ap (λ (t : ℕ). t % 2 ^ s .n) (c .before .before .before .shift-down .ensures) in
-    c .sum .ensures ∙ ap₂ _⊕_ x z ∙ swap-rows 64 (s .n) (val (s .v)) (search needs)
+    c .sum .ensures ∙ ap₂ _⊕_ x z ∙ swap-rows (s .n) (val (s .v)) (search needs)
 
 pub swap-halves-spec : {M : Type 1} → statement M
 swap-halves-spec =

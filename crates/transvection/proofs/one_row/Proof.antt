@@ -9,9 +9,9 @@ use Rattle.binar.specs.Bits.{_⊕_}
 use Rattle.binar.specs.Rows.{val}
 use Rattle.blocks.proofs.Values.{unmapped}
 use Rattle.symplectic.specs.Turns.{pairing}
-use Rattle.symplectic.specs.Actions.{qubits, matrix}
+use Rattle.symplectic.specs.Actions.{mostRows, qubits, matrix}
 use Rattle.symplectic.proofs.Arrays.{qubits-le, matrix-length, matrix-get}
-use Rattle.transvection.specs.Answers.{chosen, oneFrom}
+use Rattle.transvection.specs.inner.Searches.{oneFrom}
 use Rattle.transvection.proofs.Choices.{rowAt, meets}
 use Rattle.transvection.proofs.Searches.{one-skip, one-here, one-end}
 use borrow.Author.Needs.{needs}
@@ -19,7 +19,7 @@ use Rattle.transvection.proofs.one_row.Statement.{statement}
 use Rattle.transvection.proofs.one_row.Tie as tie
 
 abbrev Inv-loop : tie.InvT-loop
-Inv-loop a n count i₀ i = (i ≤ count) × (count ≤ 64) × (oneFrom (qubits a) (matrix a) i ≡ oneFrom (qubits a) (matrix a) 0)
+Inv-loop a n count i₀ i = (i ≤ count) × (count ≤ mostRows) × (oneFrom (qubits a) (matrix a) i ≡ oneFrom (qubits a) (matrix a) 0)
 
 abbrev μ-loop : tie.MeasureT-loop
 μ-loop a n count i₀ i = count - i
@@ -28,30 +28,30 @@ size : (c : tie.Start Inv-loop μ-loop) → length (matrix (c .args .t1)) ≡ qu
 size c = matrix-length (c .args .t1) (search (needs, unmapped))
 
 below : (c : tie.After-meets Inv-loop μ-loop) → c .before .before .before .before .loop .i < qubits (c .before .before .before .before .before .before .args .t1) + qubits (c .before .before .before .before .before .before .args .t1)
-below c = omega (arith, c .before .before .before .before .before .width .ensures)
+below c = omega (arith, c .before .before .before .before .before .qubits-of .ensures)
 
 -- row i of I + F
 row : (c : tie.After-row-at Inv-loop μ-loop) → val (c .row-at .result) ≡ rowAt (matrix (c .before .before .before .before .before .args .t1)) (c .before .before .before .loop .i)
 row c =
     let s = c .before .before .before .before .before .args in
     let i = c .before .before .before .loop .i in
-    c .row-at .ensures ∙ ap (λ (u : ℕ). u ⊕ 2 ^ i) (matrix-get (s .t1) i (omega (arith, c .before .before .before .before .width .ensures)))
+    c .row-at .ensures ∙ ap (λ (u : ℕ). u ⊕ 2 ^ i) (matrix-get (s .t1) i (omega (arith, c .before .before .before .before .qubits-of .ensures)))
 
 -- the code's test is that of the rule
 tested : (c : tie.After-meets Inv-loop μ-loop)
     → meets (qubits (c .before .before .before .before .before .before .args .t1)) (matrix (c .before .before .before .before .before .before .args .t1)) (c .before .before .before .before .loop .i) (c .before .before .before .before .loop .i) ≡ c .meets .result
 tested c =
     sym (c .meets .ensures
-    ∙ ap₂ (λ (n u : ℕ). pairing n u (2 ^ c .before .before .before .before .loop .i)) (c .before .before .before .before .before .width .ensures) (row (c .before)))
+    ∙ ap₂ (λ (n u : ℕ). pairing n u (2 ^ c .before .before .before .before .loop .i)) (c .before .before .before .before .before .qubits-of .ensures) (row (c .before)))
 
-width-requires : tie.Need-width-requires Inv-loop μ-loop
-width-requires c κs = search needs
+qubits-of-requires : tie.Need-qubits-of-requires Inv-loop μ-loop
+qubits-of-requires c κs = search needs
 
 add-count : tie.Need-add-count Inv-loop μ-loop
-add-count c = omega (arith, qubits-le (c .before .args .t1), c .width .ensures)
+add-count c = omega (arith, qubits-le (c .before .args .t1), c .qubits-of .ensures)
 
 loop-holds : tie.Need-loop-holds Inv-loop μ-loop
-loop-holds c = (search needs, omega (arith, qubits-le (c .before .args .t1), c .width .ensures), refl)
+loop-holds c = (search needs, omega (arith, qubits-le (c .before .args .t1), c .qubits-of .ensures), refl)
 
 mul-row-at : tie.Need-mul-row-at Inv-loop μ-loop
 mul-row-at c = search needs
@@ -66,7 +66,6 @@ meets-requires : tie.Need-meets-requires Inv-loop μ-loop
 meets-requires c κs = search needs
 
 returns : tie.Need-returns Inv-loop μ-loop
-unfolding chosen
 returns c =
     let s = c .before .before .before .before .before .before .before in
     let at = c .before .before .before .before .before .loop in
@@ -89,15 +88,11 @@ loop-again c =
       sym (one-skip (qubits (s .args .t1)) (matrix (s .args .t1)) (size s) (at .i) (below (c .before)) (tested (c .before) ∙ c .if1 .left)) ∙ at .inv .2,
     )
 
-nothing-found-requires : tie.Need-nothing-found-requires Inv-loop μ-loop
-nothing-found-requires c κs = search needs
-
 returns-2 : tie.Need-returns-2 Inv-loop μ-loop
 returns-2 c =
-    let s = c .before .before .before .before in
-    let at = c .before .before .loop in
-    c .nothing-found .ensures
-    ∙ sym (one-end (qubits (s .args .t1)) (matrix (s .args .t1)) (size s) (at .i) (omega (arith, c .before .before .before .width .ensures)))
+    let s = c .before .before .before in
+    let at = c .before .loop in
+    sym (one-end (qubits (s .args .t1)) (matrix (s .args .t1)) (size s) (at .i) (omega (arith, c .before .before .qubits-of .ensures)))
     ∙ at .inv .2
 
 pub one-row-spec : {M : Type 1} → statement M
@@ -106,7 +101,7 @@ one-row-spec =
     (tie.spec
     Inv-loop
     μ-loop
-    width-requires
+    qubits-of-requires
     add-count
     loop-holds
     mul-row-at
@@ -117,5 +112,4 @@ one-row-spec =
     add-i
     loop-less
     loop-again
-    nothing-found-requires
     returns-2)

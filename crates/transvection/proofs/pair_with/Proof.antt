@@ -10,9 +10,9 @@ use Rattle.binar.specs.Bits.{_⊻_, _⊕_}
 use Rattle.binar.specs.Rows.{val}
 use Rattle.blocks.proofs.Values.{unmapped}
 use Rattle.symplectic.specs.Turns.{pairing}
-use Rattle.symplectic.specs.Actions.{qubits, matrix}
+use Rattle.symplectic.specs.Actions.{mostRows, qubits, matrix}
 use Rattle.symplectic.proofs.Arrays.{qubits-le, matrix-length, matrix-get}
-use Rattle.transvection.specs.Answers.{chosen, withFrom}
+use Rattle.transvection.specs.inner.Searches.{withFrom}
 use Rattle.transvection.proofs.Choices.{rowAt, differs}
 use Rattle.transvection.proofs.Searches.{with-skip, with-here, with-end}
 use borrow.Author.Needs.{needs}
@@ -21,7 +21,7 @@ use Rattle.transvection.proofs.pair_with.Tie as tie
 
 abbrev Inv-loop : tie.InvT-loop
 Inv-loop i a n count u j₀ j =
-    (count ≤ 64) × (i < count) × (withFrom (qubits a) (matrix a) i j ≡ withFrom (qubits a) (matrix a) i (i + 1))
+    (count ≤ mostRows) × (i < count) × (withFrom (qubits a) (matrix a) i j ≡ withFrom (qubits a) (matrix a) i (i + 1))
 
 abbrev μ-loop : tie.MeasureT-loop
 μ-loop i a n count u j₀ j = count - j
@@ -36,7 +36,7 @@ sum-of false true = refl
 sum-of false false = refl
 
 below : (c : tie.After-meets2 Inv-loop μ-loop) → c .before .before .before .before .before .before .loop .j < qubits (c .before .before .before .before .before .before .before .before .before .before .args .t1) + qubits (c .before .before .before .before .before .before .before .before .before .before .args .t1)
-below c = omega (arith, c .before .before .before .before .before .before .before .before .before .width .ensures)
+below c = omega (arith, c .before .before .before .before .before .before .before .before .before .qubits-of .ensures)
 
 -- rows i and j of I + F
 row : (c : tie.After-row-at Inv-loop μ-loop) → val (c .row-at .result) ≡ rowAt (matrix (c .before .before .before .args .t1)) (c .before .before .before .args .i)
@@ -48,23 +48,23 @@ row2 : (c : tie.After-row-at2 Inv-loop μ-loop) → val (c .row-at2 .result) ≡
 row2 c =
     let s = c .before .before .before .before .before .before .before .args in
     let j = c .before .before .before .loop .j in
-    c .row-at2 .ensures ∙ ap (λ (u : ℕ). u ⊕ 2 ^ j) (matrix-get (s .t1) j (omega (arith, c .before .before .before .before .before .before .width .ensures)))
+    c .row-at2 .ensures ∙ ap (λ (u : ℕ). u ⊕ 2 ^ j) (matrix-get (s .t1) j (omega (arith, c .before .before .before .before .before .before .qubits-of .ensures)))
 
 -- the code's test is that of the rule
 tested : (c : tie.After-meets2 Inv-loop μ-loop)
     → differs (qubits (c .before .before .before .before .before .before .before .before .before .before .args .t1)) (matrix (c .before .before .before .before .before .before .before .before .before .before .args .t1)) (c .before .before .before .before .before .before .before .before .before .before .args .i) (c .before .before .before .before .before .before .loop .j)
     ≡ not (Bool·beq (c .before .meets .result) (c .meets2 .result))
 tested c =
-    let e = c .before .before .before .before .before .before .before .before .before .width .ensures in
+    let e = c .before .before .before .before .before .before .before .before .before .qubits-of .ensures in
     let first = c .before .meets .ensures ∙ ap₂ (λ (n u : ℕ). pairing n u (2 ^ c .before .before .before .before .before .before .loop .j)) e (row (c .before .before .before .before .before .before .before)) in
     let second = c .meets2 .ensures ∙ ap₂ (λ (n u : ℕ). pairing n u (2 ^ c .before .before .before .before .before .before .before .before .before .before .args .i)) e (row2 (c .before .before .before)) in
     sym (ap₂ _⊻_ first second) ∙ sum-of (c .before .meets .result) (c .meets2 .result)
 
-width-requires : tie.Need-width-requires Inv-loop μ-loop
-width-requires c κs = search needs
+qubits-of-requires : tie.Need-qubits-of-requires Inv-loop μ-loop
+qubits-of-requires c κs = search needs
 
 add-count : tie.Need-add-count Inv-loop μ-loop
-add-count c = omega (arith, qubits-le (c .before .args .t1), c .width .ensures)
+add-count c = omega (arith, qubits-le (c .before .args .t1), c .qubits-of .ensures)
 
 mul-row-at : tie.Need-mul-row-at Inv-loop μ-loop
 mul-row-at c = omega (arith, qubits-le (c .before .args .t1))
@@ -81,7 +81,7 @@ add-j c = omega (arith, qubits-le (c .before .before .before .args .t1))
 loop-holds : tie.Need-loop-holds Inv-loop μ-loop
 loop-holds c =
     let h = qubits-le (c .before .before .before .args .t1) in
-    let e = c .before .before .width .ensures in
+    let e = c .before .before .qubits-of .ensures in
     (omega arith, omega arith, refl)
 
 mul-row-at-2 : tie.Need-mul-row-at-2 Inv-loop μ-loop
@@ -103,7 +103,6 @@ meets-requires-2 : tie.Need-meets-requires-2 Inv-loop μ-loop
 meets-requires-2 c κs = search needs
 
 returns : tie.Need-returns Inv-loop μ-loop
-unfolding chosen
 returns c =
     let t = c .before in
     let s = t .before .before .before .before .before .before .before .before .before .before in
@@ -128,15 +127,11 @@ loop-again c =
       sym (with-skip (qubits (s .args .t1)) (matrix (s .args .t1)) (size s) (s .args .i) (at .j) (search needs) (below t) (tested t ∙ c .if1 .left)) ∙ at .inv .2,
     )
 
-nothing-found-requires : tie.Need-nothing-found-requires Inv-loop μ-loop
-nothing-found-requires c κs = search needs
-
 returns-2 : tie.Need-returns-2 Inv-loop μ-loop
 returns-2 c =
-    let s = c .before .before .before .before .before .before in
-    let at = c .before .before .loop in
-    c .nothing-found .ensures
-    ∙ sym (with-end (qubits (s .args .t1)) (matrix (s .args .t1)) (size s) (s .args .i) (at .j) (omega (arith, c .before .before .before .before .before .width .ensures)))
+    let s = c .before .before .before .before .before in
+    let at = c .before .loop in
+    sym (with-end (qubits (s .args .t1)) (matrix (s .args .t1)) (size s) (s .args .i) (at .j) (omega (arith, c .before .before .before .before .qubits-of .ensures)))
     ∙ at .inv .2
 
 pub pair-with-spec : {M : Type 1} → statement M
@@ -145,7 +140,7 @@ pair-with-spec =
     (tie.spec
     Inv-loop
     μ-loop
-    width-requires
+    qubits-of-requires
     add-count
     mul-row-at
     element-copy-out-row-at
@@ -162,5 +157,4 @@ pair-with-spec =
     add-j-2
     loop-less
     loop-again
-    nothing-found-requires
     returns-2)

@@ -3,7 +3,7 @@
 use mathlib.Core.Path.{ap, _∙_}
 use Prim.Native.Nat.{ℕ}
 use Rattle.binar.specs.Bits.{_⊕_}
-use Rattle.binar.specs.Rows.{val, width}
+use Rattle.binar.specs.Rows.{val}
 use Rattle.binar.proofs.Ones.{unit-is}
 use borrow.Author.Needs.{needs}
 use Rattle.transvection.proofs.row_at.Statement.{statement}
@@ -16,7 +16,6 @@ sum-requires : tie.Need-sum-requires
 sum-requires c κs = search needs
 
 returns : tie.Need-returns
-unfolding width
 returns c =
     let s = c .before .before .args in
     c .sum .ensures ∙ ap (λ (e : ℕ). val (s .u) ⊕ e) (c .before .unit .ensures ∙ unit-is (s .i) (search needs))

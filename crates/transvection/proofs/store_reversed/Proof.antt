@@ -1,29 +1,30 @@
--- `store_reversed` lays the turns from the last to the first, one by one, by `turns-back`, `laid-more` and `laid-end`.
+-- `store_reversed` lays the turns from the last to the first, one by one, by `turns-back`, `laid-next` and `laid-end`.
 -- Assumes nothing.
-use mathlib.Core.Path.{_≡_, refl, ap₂, _∙_}
-use mathlib.Core.List.{List, _++_, reverse}
-use Prim.Native.Nat.{ℕ, _-_, _≤_, _<_}
+use mathlib.Core.Path.{_≡_, refl, _∙_}
+use mathlib.Core.List.{_++_, reverse}
+use Prim.Native.Nat.{_-_, _≤_, _<_}
 use native.Mathlib.Omega.{arith}
-use lib.ListN.{length, set, take, drop, length-set, length-reverse}
-use Rattle.blocks.proofs.Values.{laid-more, laid-end, unmapped}
-use Rattle.transvection.specs.Answers.{turns}
+use lib.ListN.{length, take, drop, length-set, length-reverse}
+use Rattle.blocks.specs.Words.{wordsOfRows}
+use Rattle.blocks.proofs.Values.{laid-next, laid-end, unmapped}
+use Rattle.transvection.specs.inner.Kept.{recordRoom, turns}
 use Rattle.transvection.proofs.Kept.{turns-length, turns-back}
 use borrow.Author.Needs.{needs}
 use Rattle.transvection.proofs.store_reversed.Statement.{statement}
 use Rattle.transvection.proofs.store_reversed.Tie as tie
 
 abbrev Inv-loop : tie.InvT-loop
-Inv-loop out₀ kept count k₀ out k =
-    (k ≤ count) × (length out ≡ length out₀) × (out ≡ take k (reverse (turns kept)) ++ drop k out₀)
+Inv-loop n out₀ kept count k₀ out k =
+    (k ≤ count) × (length out ≡ length out₀) × (out ≡ take k (wordsOfRows n (reverse (turns kept))) ++ drop k out₀)
 
 abbrev μ-loop : tie.MeasureT-loop
-μ-loop out₀ kept count k₀ out k = count - k
+μ-loop n out₀ kept count k₀ out k = count - k
 
-long : (c : tie.Start Inv-loop μ-loop) → length (c .args .t1 .rows) ≡ 130
+long : (c : tie.Start Inv-loop μ-loop) → length (c .args .t2 .rows) ≡ recordRoom
 long c = search (needs, unmapped)
 
-size : (c : tie.Start Inv-loop μ-loop) → length (reverse (turns (c .args .t1))) ≡ c .args .t1 .count
-size c = length-reverse (turns (c .args .t1)) ∙ turns-length (c .args .t1) (long c) (search needs)
+size : (c : tie.Start Inv-loop μ-loop) → length (reverse (turns (c .args .t2))) ≡ c .args .t2 .count
+size c = length-reverse (turns (c .args .t2)) ∙ turns-length (c .args .t2) (long c) (search needs)
 
 loop-holds : tie.Need-loop-holds Inv-loop μ-loop
 loop-holds c = (search needs, refl, refl)
@@ -63,8 +64,8 @@ loop-again c =
     let g : at .k < length (s .args .out .now) = search needs in (
       search needs,
       simp length-set (at .inv .1),
-      ap₂ (λ (x : List ℕ) (v : ℕ). set x (at .k) v) (at .inv .2) (c .word .ensures ∙ turns-back (s .args .t1) (long s) (search needs) (at .k) (search needs))
-          ∙ laid-more (reverse (turns (s .args .t1))) (s .args .out .now) (at .k) (omega arith) g,
+      laid-next (s .args .n) (reverse (turns (s .args .t2))) (s .args .out .now) (at .out) (at .k) _ _ (omega arith) g (at .inv .2) (c .word .ensures)
+          (turns-back (s .args .t2) (long s) (search needs) (at .k) (search needs)),
     )
 
 same-length : tie.Need-same-length Inv-loop μ-loop
@@ -74,8 +75,8 @@ returns : tie.Need-returns Inv-loop μ-loop
 returns c =
     let s = c .before .before .before in
     let n = size s in
-    let fits : s .args .t1 .count ≤ length (s .args .out .now) = search needs in
-    c .before .loop .inv .2 ∙ laid-end (reverse (turns (s .args .t1))) (s .args .out .now) (c .before .loop .k) (omega arith)
+    let fits : s .args .t2 .count ≤ length (s .args .out .now) = search needs in
+    c .before .loop .inv .2 ∙ laid-end (s .args .n) (reverse (turns (s .args .t2))) (s .args .out .now) (c .before .loop .k) (omega arith)
 
 pub store-reversed-spec : {M : Type 1} → statement M
 store-reversed-spec =

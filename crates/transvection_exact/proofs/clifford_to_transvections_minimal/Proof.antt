@@ -8,14 +8,15 @@ use lib.ListN.{length}
 use Rattle.blocks.specs.Words.{rowsOfWords}
 use Rattle.symplectic.specs.declared.Question.{Question}
 use Rattle.symplectic.specs.declared.Question.the-variants.{Passed, TooManyQubits, WrongRowCount, RowTooWide, NotSymplectic}
+use Rattle.symplectic.specs.Actions.{maxQubits}
 use Rattle.symplectic.specs.Answers.{numberOf}
-use Rattle.symplectic.specs.Replies.{Reply, toldOf, refused, actionQuestions}
+use Rattle.symplectic.specs.Replies.{Reply, refused, actionQuestions}
 use Rattle.symplectic.proofs.Arrays.{loaded}
 use Rattle.symplectic.proofs.Questions.{passed-size, passed-count, list-passed, list-short}
 use Rattle.triangular.specs.Search.{budgeted}
 use Rattle.transvection_exact.specs.declared.Minimal.the-variants as minimal
 use Rattle.transvection_exact.specs.Minimal.{coreSearch, searchedReply}
-use Rattle.transvection_exact.specs.Answers.{told}
+use Rattle.transvection_exact.specs.Answers.{figuresOf}
 use Rattle.transvection_exact.proofs.Answered.{minimal-refused, minimal-early, minimal-searched}
 use borrow.Author.Needs.{needs}
 use Rattle.transvection_exact.proofs.clifford_to_transvections_minimal.Statement.{statement}
@@ -23,17 +24,16 @@ use Rattle.transvection_exact.proofs.clifford_to_transvections_minimal.
 
 -- the number that the questions answer, from the case that the code takes
 number : (c : tie.After-action-questions) (q : Question) (k : ℕ) → c .action-questions .result ≡ q → numberOf q ≡ k
-    → actionQuestions (c .before .before .before .args .n) (rowsOfWords (c .before .before .before .args .rows .now)) ≡ k
+    → actionQuestions (c .before .before .before .args .n) (rowsOfWords (c .before .before .before .args .n) (c .before .before .before .args .rows .now)) ≡ k
 number c q k e h = sym (c .action-questions .ensures) ∙ ap numberOf e ∙ h
 
 -- every question of the action is passed
 passed : (c : tie.After-enum-told5)
-    → actionQuestions (c .before .before .before .before .before .args .n) (rowsOfWords (c .before .before .before .before .before .args .rows .now)) ≡ 0
-unfolding numberOf
+    → actionQuestions (c .before .before .before .before .before .args .n) (rowsOfWords (c .before .before .before .before .before .args .n) (c .before .before .before .before .before .args .rows .now)) ≡ 0
 passed c = number (c .before .before) Passed 0 (search (needs, c .enum-told5 .given)) refl
 
-few : (c : tie.After-enum-told5) → c .before .before .before .before .before .args .n ≤ 32
-few c = passed-size (c .before .before .before .before .before .args .n) (rowsOfWords (c .before .before .before .before .before .args .rows .now)) (passed c)
+few : (c : tie.After-enum-told5) → c .before .before .before .before .before .args .n ≤ maxQubits
+few c = passed-size (c .before .before .before .before .before .args .n) (rowsOfWords (c .before .before .before .before .before .args .n) (c .before .before .before .before .before .args .rows .now)) (passed c)
 
 action-questions-requires : tie.Need-action-questions-requires
 action-questions-requires c κs = search needs
@@ -42,37 +42,33 @@ enum-told : tie.Need-enum-told
 enum-told c = search needs
 
 returns : tie.Need-returns
-unfolding told toldOf refused numberOf
 returns c =
     let s = c .before .before .before .before .before .args in
-    minimal-early (s .n) (s .rows .now) (s .budget) (s .out .now) 0 (told minimal.TooManyQubits) (number (c .before .before) TooManyQubits 1 (search (needs, c .enum-told .given)) refl) refl
+    minimal-early (s .n) (s .rows .now) (s .budget) (s .out .now) 0 (figuresOf minimal.TooManyQubits) (number (c .before .before) TooManyQubits 1 (search (needs, c .enum-told .given)) refl) refl
 
 enum-told-2 : tie.Need-enum-told-2
 enum-told-2 c = search needs
 
 returns-2 : tie.Need-returns-2
-unfolding told toldOf refused numberOf
 returns-2 c =
     let s = c .before .before .before .before .before .args in
-    minimal-early (s .n) (s .rows .now) (s .budget) (s .out .now) 1 (told minimal.WrongRowCount) (number (c .before .before) WrongRowCount 2 (search (needs, c .enum-told2 .given)) refl) refl
+    minimal-early (s .n) (s .rows .now) (s .budget) (s .out .now) 1 (figuresOf minimal.WrongRowCount) (number (c .before .before) WrongRowCount 2 (search (needs, c .enum-told2 .given)) refl) refl
 
 enum-told-3 : tie.Need-enum-told-3
 enum-told-3 c = search needs
 
 returns-3 : tie.Need-returns-3
-unfolding told toldOf refused numberOf
 returns-3 c =
     let s = c .before .before .before .before .before .args in
-    minimal-early (s .n) (s .rows .now) (s .budget) (s .out .now) 2 (told minimal.RowTooWide) (number (c .before .before) RowTooWide 3 (search (needs, c .enum-told3 .given)) refl) refl
+    minimal-early (s .n) (s .rows .now) (s .budget) (s .out .now) 2 (figuresOf minimal.RowTooWide) (number (c .before .before) RowTooWide 3 (search (needs, c .enum-told3 .given)) refl) refl
 
 enum-told-4 : tie.Need-enum-told-4
 enum-told-4 c = search needs
 
 returns-4 : tie.Need-returns-4
-unfolding told toldOf refused numberOf
 returns-4 c =
     let s = c .before .before .before .before .before .args in
-    minimal-early (s .n) (s .rows .now) (s .budget) (s .out .now) 3 (told minimal.NotSymplectic) (number (c .before .before) NotSymplectic 4 (search (needs, c .enum-told4 .given)) refl) refl
+    minimal-early (s .n) (s .rows .now) (s .budget) (s .out .now) 3 (figuresOf minimal.NotSymplectic) (number (c .before .before) NotSymplectic 4 (search (needs, c .enum-told4 .given)) refl) refl
 
 enum-told-5 : tie.Need-enum-told-5
 enum-told-5 c = search needs
@@ -84,14 +80,13 @@ add-wanted : tie.Need-add-wanted
 add-wanted c = omega (arith, few c)
 
 returns-5 : tie.Need-returns-5
-unfolding told toldOf refused
 returns-5 c =
     let s = c .before .before .before .before .before .before .args in
-    minimal-refused (s .n) (s .rows .now) (s .budget) (s .out .now) 4 (told minimal.OutputTooShort)
-    (list-short (s .n) (rowsOfWords (s .rows .now)) (s .n + s .n + 1) (length (s .out .now)) (passed (c .before)) (omega arith)) refl
+    minimal-refused (s .n) (s .rows .now) (s .budget) (s .out .now) 4 (figuresOf minimal.OutputTooShort)
+    (list-short (s .n) (rowsOfWords (s .n) (s .rows .now)) (s .n + s .n + 1) (length (s .out .now)) (passed (c .before)) (omega arith)) refl
 
-load-requires : tie.Need-load-requires
-load-requires c κs = search needs
+from-words-requires : tie.Need-from-words-requires
+from-words-requires c κs = search needs
 
 searched-requires : tie.Need-searched-requires
 searched-requires c κs = search needs
@@ -103,14 +98,14 @@ returns-6 : tie.Need-returns-6
 returns-6 c =
     let s = c .before .before .before .before .before .before .before .before .before .before .before .args in
     let t = c .before .before .before .before .before .before in
-    let F = rowsOfWords (s .rows .now) in
-    let l = c .before .before .before .before .load in
+    let F = rowsOfWords (s .n) (s .rows .now) in
+    let l = c .before .before .before .before .from-words in
     let e = c .before .before .searched in
     let same = loaded (l .result) (s .n) F (few t) (passed-count (s .n) F (passed t)) (l .ensures .0) (l .ensures .1) in
     let w = ap₂ (λ (m : ℕ) (G : List ℕ). searchedReply m G (budgeted (s .budget) (coreSearch m G)) (s .out .now)) (same .0) (same .1) in
-    minimal-searched (s .n) (s .rows .now) (s .budget) (s .out .now) (e .last .1 .1 .0) (told (e .result))
+    minimal-searched (s .n) (s .rows .now) (s .budget) (s .out .now) (e .last .1 .1 .0) (figuresOf (e .result))
     (list-passed (s .n) F (s .n + s .n + 1) (length (s .out .now)) (passed t) (omega arith))
-    (e .ensures .0 ∙ ap toldOf w)
+    (e .ensures .0 ∙ ap (λ (x : Reply). x .figures) w)
     (e .ensures .1 ∙ ap (λ (x : Reply). x .words) w)
 
 pub clifford-to-transvections-minimal-spec : {M : Type 1} → statement M
@@ -130,7 +125,7 @@ clifford-to-transvections-minimal-spec =
     mul-wanted
     add-wanted
     returns-5
-    load-requires
+    from-words-requires
     searched-requires
     same-length
     returns-6)

@@ -2,9 +2,9 @@
 -- Assumes nothing.
 use mathlib.Core.Path.{ap}
 use Prim.Native.Nat.{ℕ}
-use Rattle.symplectic.specs.Replies.{toldOf, listed}
+use Rattle.symplectic.specs.Replies.{listed}
 use Rattle.transvection_exact.specs.declared.Minimal.the-variants.{Listed}
-use Rattle.transvection_exact.specs.Answers.{told}
+use Rattle.transvection_exact.specs.Answers.{figuresOf}
 use borrow.Author.Needs.{needs}
 use Rattle.transvection_exact.proofs.stored.Statement.{statement}
 use Rattle.transvection_exact.proofs.stored.Tie as tie
@@ -19,8 +19,7 @@ same-length : tie.Need-same-length
 same-length c = search needs
 
 returns : tie.Need-returns
-unfolding told toldOf listed
-returns c = (ap (λ (k : ℕ). told (Listed k (c .before .before .before .before .before .before .args .looks))) (c .length-of .ensures), c .before .before .before .store .ensures)
+returns c = (ap (λ (k : ℕ). figuresOf (Listed k (c .before .before .before .before .before .before .args .looks))) (c .length-of .ensures), c .before .before .before .store .ensures)
 
 pub stored-spec : {M : Type 1} → statement M
 stored-spec = tie.close (tie.spec store-requires length-of-requires same-length returns)

@@ -15,7 +15,8 @@ use Rattle.blocks.specs.Matrices.{times}
 use Rattle.blocks.proofs.Products.{times-zero}
 use Rattle.reduction.specs.Residue.{form}
 use Rattle.reduction.proofs.Forms.{formOf}
-use Rattle.triangular.specs.Readings.{basisOf, formsOf, verdictOf, seenBack}
+use Rattle.triangular.specs.Readings.{basisOf, formsOf, verdictOf}
+use Rattle.triangular.specs.inner.Backward.{seenBack}
 use Rattle.triangular.proofs.Drawing.{ones-last, drawn-first}
 use Rattle.triangular.proofs.Budgets.{rest-kept, rest-pushed, space-empty, space-alternating, space-begun, at-end, at-stop, at-left, at-kept, at-failed}
 use Rattle.triangular.proofs.try_draw.Reads as try-draw
@@ -76,24 +77,24 @@ try-draw-returns-2 t c =
           (draw-rest t a E fit .2) (not-found (o .ending) (c .match .keys2)) ∙ draw-whole t a E fit,
     )
 
-try-space-bare-requires : (t : ℕ) → try-space-lts.Need-bare-requires (space-claims t) (try-space-at t) try-space.Post try-space-Inv-loop try-space-μ-loop
-try-space-bare-requires t c κs = search needs
+try-space-without-list-requires : (t : ℕ) → try-space-lts.Need-without-list-requires (space-claims t) (try-space-at t) try-space.Post try-space-Inv-loop try-space-μ-loop
+try-space-without-list-requires t c κs = search needs
 
 try-space-returns : (t : ℕ) → try-space-lts.Need-returns (space-claims t) (try-space-at t) try-space.Post try-space-Inv-loop try-space-μ-loop
 unfolding verdictOf
 try-space-returns t c =
     let start = c .before .before in
     let s = start .args in (
-      omega (arith, c .bare .ensures .1, start .pre .1 .1),
+      omega (arith, c .without-list .ensures .1, start .pre .1 .1),
       λ E fit.
-          c .bare .ensures .0 ∙ space-empty (form E) (s .budget) (s .looks) (basisOf (s .s)) (s .s .count) (c .before .if1 .taken) (start .pre .1 .1),
+          c .without-list .ensures .0 ∙ space-empty (form E) (s .budget) (s .looks) (basisOf (s .s)) (s .s .count) (c .before .if1 .taken) (start .pre .1 .1),
     )
 
 try-space-is-alternating-requires : (t : ℕ) → try-space-lts.Need-is-alternating-requires (space-claims t) (try-space-at t) try-space.Post try-space-Inv-loop try-space-μ-loop
 try-space-is-alternating-requires t c κs = search needs
 
-try-space-bare-requires-2 : (t : ℕ) → try-space-lts.Need-bare-requires-2 (space-claims t) (try-space-at t) try-space.Post try-space-Inv-loop try-space-μ-loop
-try-space-bare-requires-2 t c κs = search needs
+try-space-without-list-requires-2 : (t : ℕ) → try-space-lts.Need-without-list-requires-2 (space-claims t) (try-space-at t) try-space.Post try-space-Inv-loop try-space-μ-loop
+try-space-without-list-requires-2 t c κs = search needs
 
 try-space-returns-2 : (t : ℕ) → try-space-lts.Need-returns-2 (space-claims t) (try-space-at t) try-space.Post try-space-Inv-loop try-space-μ-loop
 unfolding verdictOf
@@ -101,9 +102,9 @@ try-space-returns-2 t c =
     let told = c .before .before in
     let start = told .before .before in
     let s = start .args in (
-      omega (arith, c .bare2 .ensures .1, start .pre .1 .1),
+      omega (arith, c .without-list2 .ensures .1, start .pre .1 .1),
       λ E fit.
-          c .bare2 .ensures .0 ∙ space-alternating (form E) (s .budget) (s .looks) (basisOf (s .s)) (s .s .count) (pos-of-ne-zero (told .before .if1 .left))
+          c .without-list2 .ensures .0 ∙ space-alternating (form E) (s .budget) (s .looks) (basisOf (s .s)) (s .s .count) (pos-of-ne-zero (told .before .if1 .left))
           (sym (told .is-alternating .ensures E fit) ∙ c .before .if2 .taken) (start .pre .1 .1),
     )
 
@@ -138,8 +139,8 @@ try-space-less-requires t c κs = search needs
 try-space-next-requires : (t : ℕ) → try-space-lts.Need-next-requires (space-claims t) (try-space-at t) try-space.Post try-space-Inv-loop try-space-μ-loop
 try-space-next-requires t c κs = search needs
 
-try-space-bare-requires-3 : (t : ℕ) → try-space-lts.Need-bare-requires-3 (space-claims t) (try-space-at t) try-space.Post try-space-Inv-loop try-space-μ-loop
-try-space-bare-requires-3 t c κs = search needs
+try-space-without-list-requires-3 : (t : ℕ) → try-space-lts.Need-without-list-requires-3 (space-claims t) (try-space-at t) try-space.Post try-space-Inv-loop try-space-μ-loop
+try-space-without-list-requires-3 t c κs = search needs
 
 try-space-returns-3 : (t : ℕ) → try-space-lts.Need-returns-3 (space-claims t) (try-space-at t) try-space.Post try-space-Inv-loop try-space-μ-loop
 unfolding verdictOf
@@ -148,9 +149,9 @@ try-space-returns-3 t c =
     let at = next .before .before .before .loop in
     let start = next-start t next in
     let s = start .args in (
-      omega (arith, c .bare3 .ensures .1, at .inv .1),
+      omega (arith, c .without-list3 .ensures .1, at .inv .1),
       λ E fit.
-          c .bare3 .ensures .0 ∙ at-stop (form E) (s .budget) (at .spent) (basisOf (s .s)) (s .s .count - 1) (val (next-last t next)) (val (at .c)) _ (at .inv .4 E fit)
+          c .without-list3 .ensures .0 ∙ at-stop (form E) (s .budget) (at .spent) (basisOf (s .s)) (s .s .count - 1) (val (next-last t next)) (val (at .c)) _ (at .inv .4 E fit)
           (ahead t next) (c .before .if4 .taken),
     )
 
@@ -256,8 +257,8 @@ try-space-loop-again-2 t c =
           (val (dot .before .before .before .sum .result)) (vector-is t dot) (form-is t dot E fit ∙ c .if5 .left)),
     )
 
-try-space-bare-requires-4 : (t : ℕ) → try-space-lts.Need-bare-requires-4 (space-claims t) (try-space-at t) try-space.Post try-space-Inv-loop try-space-μ-loop
-try-space-bare-requires-4 t c κs = search needs
+try-space-without-list-requires-4 : (t : ℕ) → try-space-lts.Need-without-list-requires-4 (space-claims t) (try-space-at t) try-space.Post try-space-Inv-loop try-space-μ-loop
+try-space-without-list-requires-4 t c κs = search needs
 
 try-space-returns-5 : (t : ℕ) → try-space-lts.Need-returns-5 (space-claims t) (try-space-at t) try-space.Post try-space-Inv-loop try-space-μ-loop
 unfolding verdictOf
@@ -267,9 +268,9 @@ try-space-returns-5 t c =
     let start = less .before .before .before .before .before .before .before .before in
     let s = start .args in
     let last = val (less .before .before .before .low-ones .result) in (
-      omega (arith, c .bare4 .ensures .1, at .inv .1),
+      omega (arith, c .without-list4 .ensures .1, at .inv .1),
       λ E fit.
-          c .bare4 .ensures .0 ∙ at-end (form E) (s .budget) (at .spent) (basisOf (s .s)) (s .s .count - 1) last (val (at .c)) _ (at .inv .4 E fit)
+          c .without-list4 .ensures .0 ∙ at-end (form E) (s .budget) (at .spent) (basisOf (s .s)) (s .s .count - 1) last (val (at .c)) _ (at .inv .4 E fit)
           (ltb-false (val (at .c)) last (sym (less .less .ensures) ∙ c .before .if3 .left)) (at .inv .1),
     )
 
@@ -289,10 +290,10 @@ pub +try-draw+try-space-spec : {M : Type 1} → statement M
     try-space.Post
     try-space-Inv-loop
     try-space-μ-loop
-    (try-space-bare-requires t)
+    (try-space-without-list-requires t)
     (try-space-returns t)
     (try-space-is-alternating-requires t)
-    (try-space-bare-requires-2 t)
+    (try-space-without-list-requires-2 t)
     (try-space-returns-2 t)
     (try-space-sums-requires t)
     (try-space-low-ones-requires t)
@@ -300,7 +301,7 @@ pub +try-draw+try-space-spec : {M : Type 1} → statement M
     (try-space-loop-holds t)
     (try-space-less-requires t)
     (try-space-next-requires t)
-    (try-space-bare-requires-3 t)
+    (try-space-without-list-requires-3 t)
     (try-space-returns-3 t)
     (try-space-add-spent t)
     (try-space-lowest-requires t)
@@ -318,5 +319,5 @@ pub +try-draw+try-space-spec : {M : Type 1} → statement M
     (try-space-returns-4 t)
     (try-space-loop-less-2 t)
     (try-space-loop-again-2 t)
-    (try-space-bare-requires-4 t)
+    (try-space-without-list-requires-4 t)
     (try-space-returns-5 t)

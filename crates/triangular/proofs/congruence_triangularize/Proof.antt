@@ -7,7 +7,8 @@ use Rattle.blocks.specs.Matrices.{matmul}
 use Rattle.blocks.proofs.Units.{matmul-units}
 use Rattle.reduction.specs.Residue.{form}
 use Rattle.triangular.specs.Search.{search as searchOf, budgeted}
-use Rattle.triangular.specs.Readings.{coreOf, verdictOf, seen, seenBack}
+use Rattle.triangular.specs.Readings.{coreOf, verdictOf, seen}
+use Rattle.triangular.specs.inner.Backward.{seenBack}
 use borrow.Author.Needs.{needs}
 use Rattle.triangular.proofs.congruence_triangularize.Statement.{statement}
 use Rattle.triangular.proofs.congruence_triangularize.Tie as tie

@@ -1,17 +1,17 @@
 -- `dropped` changes the members behind j in place, and their form rows with them, by the laws of Dropping.
 -- Assumes nothing.
-use Rattle.triangular.proofs.Dropping.{first-found, comesTo, dropped-start, dropped-next, dropped-end, forms-start, forms-next, forms-end}
-use Rattle.triangular.proofs.Cores.{taken-get, core-row, basis-length}
+use Rattle.triangular.proofs.Dropping.{first-found, comesTo, beside, dropped-start, dropped-next, dropped-end}
+use Rattle.triangular.proofs.Cores.{taken-get, taken-length, basis-length, forms-length}
 use Rattle.triangular.specs.Readings.{basisOf, formsOf}
-use Rattle.triangular.specs.Spaces.{complement}
+use Rattle.triangular.specs.Spaces.{complementRows}
 use Rattle.blocks.proofs.Values.{unmapped}
-use Rattle.blocks.specs.Matrices.{times, matmul, without}
 use Rattle.blocks.specs.Blocks.{vals}
-use Rattle.binar.specs.Rows.{val, blank}
+use Rattle.binar.specs.Rows.{width, val}
+use Rattle.binar.specs.inner.Blank.{blank}
 use Rattle.binar.specs.Bits.{dot}
 use lib.ListN.{length, length-set, getD, take}
 use Prim.Native.Nat.{ℕ, suc, _+_, _-_, _≤_, _<_}
-use mathlib.Core.List.{List}
+use mathlib.Core.List.{zip}
 use mathlib.Core.Path.{_≡_, refl, sym, ap, _∙_}
 use native.Mathlib.Omega.{arith}
 use borrow.Author.Needs.{needs}
@@ -20,27 +20,17 @@ use Rattle.triangular.proofs.dropped.Tie as tie
 
 abbrev Inv-loop : tie.InvT-loop
 Inv-loop f j t₀ m mf last n₀ t n =
-    (j ≤ n) × (n ≤ last) × (length (t .basis) ≡ 64) × (length (t .forms) ≡ 64)
-    × (comesTo (val f) (val m) n (without n (take (t₀ .count) (vals (t .basis)))) ≡ complement (dot (val f)) (basisOf t₀))
-    × ((E : List ℕ) → matmul (basisOf t₀) E ≡ formsOf t₀ → matmul (without n (take (t₀ .count) (vals (t .basis)))) E ≡ without n (take (t₀ .count) (vals (t .forms))))
+    (j ≤ n) × (n ≤ last) × (length (t .basis) ≡ width) × (length (t .forms) ≡ width)
+    × (comesTo (val f) (val m, val mf) n (beside (t₀ .count) (t .basis) (t .forms)) ≡ complementRows (dot (val f)) (zip (basisOf t₀) (formsOf t₀)))
 
 abbrev μ-loop : tie.MeasureT-loop
 μ-loop f j t₀ m mf last n₀ t n = last - n
 
-long : (c : tie.Start Inv-loop μ-loop) → length (c .args .s .basis) ≡ 64
+long : (c : tie.Start Inv-loop μ-loop) → length (c .args .s .basis) ≡ width
 long c = search (needs, unmapped)
 
-long-forms : (c : tie.Start Inv-loop μ-loop) → length (c .args .s .forms) ≡ 64
+long-forms : (c : tie.Start Inv-loop μ-loop) → length (c .args .s .forms) ≡ width
 long-forms c = search (needs, unmapped)
-
--- the form row of member j
-row : (c : tie.Start Inv-loop μ-loop) (E : List ℕ) → matmul (basisOf (c .args .s)) E ≡ formsOf (c .args .s)
-    → val (getD (c .args .s .forms) (c .args .j) blank) ≡ times (val (getD (c .args .s .basis) (c .args .j) blank)) E
-unfolding basisOf formsOf
-row c E e =
-    let s = c .args .s in
-    let j = c .args .j in
-    taken-get (s .count) (s .forms) j (c .pre .1) ∙ core-row (basisOf s) (formsOf s) E e j ∙ ap (λ (x : ℕ). times x E) (sym (taken-get (s .count) (s .basis) j (c .pre .1)))
 
 mul-m : tie.Need-mul-m Inv-loop μ-loop
 mul-m c = search needs
@@ -64,13 +54,15 @@ loop-holds c =
     let s = start .args .s in
     let f = val (start .args .f) in
     let j = start .args .j in
-    let first = first-found (dot f) (basisOf s) j (start .pre .2) (omega (arith, start .pre .1, basis-length s (omega (arith, long start, start .pre .0)))) (start .pre .3) in (
+    let size = basis-length s (omega (arith, long start, start .pre .0)) in
+    let same : length (basisOf s) ≡ length (formsOf s) = size ∙ sym (forms-length s (omega (arith, long-forms start, start .pre .0))) in
+    let first = first-found (dot f) (basisOf s) j (start .pre .2) (omega (arith, start .pre .1)) (start .pre .3) in (
       search needs,
       omega (arith, start .pre .1),
       long start,
       long-forms start,
-      dropped-start f (basisOf s) j first (val (getD (s .basis) j blank)) (taken-get (s .count) (s .basis) j (start .pre .1)),
-      λ E e. forms-start (basisOf s) (formsOf s) E j e,
+      dropped-start f (basisOf s) (formsOf s) j same first (val (getD (s .basis) j blank)) (val (getD (s .forms) j blank))
+          (taken-get (s .count) (s .basis) j (start .pre .1)) (taken-get (s .count) (s .forms) j (start .pre .1)),
     )
 
 add-y : tie.Need-add-y Inv-loop μ-loop
@@ -128,20 +120,17 @@ loop-again c =
     let k = s .count in
     let t = at .t in
     let n = at .n in
-    let m = val (getD (s .basis) j blank) in
     let h : n + 1 < k = omega (arith, start .pre .1) in
     let b : k ≤ length (t .basis) = omega (arith, at .inv .2, start .pre .0) in
     let g : k ≤ length (t .forms) = omega (arith, at .inv .3, start .pre .0) in
-    let hit = c .before .before .dot in
-    let y = val (getD (t .basis) (n + 1) blank) in (
+    let hit = c .before .before .dot in (
       search needs,
       omega (arith, at .inv .1),
       simp length-set (at .inv .2),
       simp length-set (at .inv .3),
-      dropped-next k n h f m (t .basis) b y (taken-get k (t .basis) (n + 1) h) (hit .result) (hit .ensures) (c .before .added .result) (c .before .added .ensures) _ (at .inv .4),
-      λ E e. forms-next k n h f m (t .basis) b y (taken-get k (t .basis) (n + 1) h) (hit .result) (hit .ensures) (c .before .added .result) (c .before .added .ensures)
-          E (t .forms) g (val (getD (t .forms) (n + 1) blank)) (val (getD (s .forms) j blank)) (taken-get k (t .forms) (n + 1) h)
-          (row start E e) (c .added2 .result) (c .added2 .ensures) (at .inv .5 E e),
+      dropped-next k (t .basis) (t .forms) b g f (val (getD (s .basis) j blank)) (val (getD (s .forms) j blank)) n h
+          (val (getD (t .basis) (n + 1) blank)) (val (getD (t .forms) (n + 1) blank)) (taken-get k (t .basis) (n + 1) h) (taken-get k (t .forms) (n + 1) h)
+          (hit .result) (hit .ensures) (c .before .added .result) (c .added2 .result) (c .before .added .ensures) (c .added2 .ensures) _ (at .inv .4),
     )
 
 returns : tie.Need-returns Inv-loop μ-loop
@@ -156,9 +145,9 @@ returns c =
     let b : s .count ≤ length (at .t .basis) = omega (arith, at .inv .2, start .pre .0) in
     let g : s .count ≤ length (at .t .forms) = omega (arith, at .inv .3, start .pre .0) in (
       refl,
-      ap (λ (n : ℕ). take n (vals (at .t .basis))) last ∙ dropped-end (s .count) (at .n) e f (val (getD (s .basis) (start .args .j) blank)) (at .t .basis) b _ (at .inv .4),
-      λ E is. ap (λ (n : ℕ). matmul (take n (vals (at .t .basis))) E) last ∙ forms-end (s .count) (at .n) e E (at .t .basis) (at .t .forms) b g (at .inv .5 E is)
-          ∙ ap (λ (n : ℕ). take n (vals (at .t .forms))) (sym last),
+      taken-length (s .count - 1) (at .t .basis) (omega arith) ∙ sym (taken-length (s .count - 1) (at .t .forms) (omega arith)),
+      ap (λ (n : ℕ). zip (take n (vals (at .t .basis))) (take n (vals (at .t .forms)))) last
+          ∙ dropped-end (s .count) (at .t .basis) (at .t .forms) b g f (val (getD (s .basis) (start .args .j) blank)) (val (getD (s .forms) (start .args .j) blank)) (at .n) e _ (at .inv .4),
     )
 
 pub dropped-spec : {M : Type 1} → statement M

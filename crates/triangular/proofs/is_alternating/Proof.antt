@@ -3,11 +3,12 @@
 use mathlib.Core.Path.{_≡_, sym, ap, _∙_}
 use mathlib.Core.Bool.{true, Bool·beq}
 use mathlib.Core.List.{List}
-use Prim.Native.Nat.{ℕ, _-_, _*_, _≤_}
+use Prim.Native.Nat.{ℕ, _+_, _-_, _*_, _≤_}
 use native.Mathlib.Omega.{arith}
 use lib.ListN.{length, getD, take}
 use lib.Seq.{take-all}
 use borrow.Author.Tests.{not-true, not-false}
+use Rattle.binar.specs.Rows.{width}
 use Rattle.blocks.specs.Matrices.{matmul}
 use Rattle.blocks.proofs.Values.{unmapped}
 use Rattle.linear.proofs.Maps.{same-of-beq}
@@ -25,12 +26,12 @@ Inv-loop s k i₀ j₀ i j = (i ≤ k) × (j ≤ i) × ((E : List ℕ) → matmu
     → (isAlternating (form E) (take i (basisOf s)) ≡ true) × (symmetricWith (form E) (getD (basisOf s) i 0) (take j (basisOf s)) ≡ true))
 
 abbrev μ-loop : tie.MeasureT-loop
-μ-loop s k i₀ j₀ i j = (k - i) * 65 - j
+μ-loop s k i₀ j₀ i j = (k - i) * (width + 1) - j
 
 size : (c : tie.Start Inv-loop μ-loop) → length (basisOf (c .args .t1)) ≡ c .args .t1 .count
 size c = basis-length (c .args .t1) (omega (arith, long c))
   where
-    long : (c : tie.Start Inv-loop μ-loop) → length (c .args .t1 .basis) ≡ 64
+    long : (c : tie.Start Inv-loop μ-loop) → length (c .args .t1 .basis) ≡ width
     long c = search (needs, unmapped)
 
 loop-holds : tie.Need-loop-holds Inv-loop μ-loop

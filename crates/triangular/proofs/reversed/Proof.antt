@@ -5,7 +5,7 @@ use mathlib.Core.List.{reverse}
 use Prim.Native.Nat.{_-_, _≤_}
 use native.Mathlib.Omega.{arith}
 use lib.ListN.{length, drop}
-use Rattle.blocks.specs.Blocks.{rowsOf}
+use Rattle.blocks.specs.Blocks.{room, rowsOf}
 use Rattle.blocks.proofs.Values.{rows-fit, rows-get, unmapped}
 use Rattle.triangular.proofs.Copies.{reversed-start, reversed-next, reversed-end}
 use borrow.Author.Needs.{needs}
@@ -18,7 +18,7 @@ Inv-loop b k n₀ i₀ n i = (i ≤ k) × (rowsOf n ≡ reverse (drop (k - i) (r
 abbrev μ-loop : tie.MeasureT-loop
 μ-loop b k n₀ i₀ n i = k - i
 
-fits : (c : tie.Start Inv-loop μ-loop) → length (rowsOf (c .args .t1)) ≤ 65
+fits : (c : tie.Start Inv-loop μ-loop) → length (rowsOf (c .args .t1)) ≤ room
 fits c = rows-fit (c .args .t1) (search (needs, unmapped))
 
 length-of-requires : tie.Need-length-of-requires Inv-loop μ-loop

@@ -12,13 +12,14 @@ use Rattle.triangular.proofs.size_of.Tie as tie
 length-of-requires : tie.Need-length-of-requires
 length-of-requires c κs = search needs
 
-returns : tie.Need-returns
-unfolding coreOf width
-returns c = (search needs, omega (arith, length-take 64 (rowsOf (c .before .before .args .core)), c .before .length-of .ensures))
+lesser-requires : tie.Need-lesser-requires
+lesser-requires c κs = search needs
 
-returns-2 : tie.Need-returns-2
-unfolding coreOf width
-returns-2 c = (search needs, omega (arith, length-take 64 (rowsOf (c .before .before .args .core)), c .before .length-of .ensures))
+returns : tie.Need-returns
+unfolding coreOf
+returns c =
+    let e = c .before .length-of .ensures in
+    (omega (arith, c .lesser .ensures), omega (arith, length-take width (rowsOf (c .before .before .args .core)), c .lesser .ensures))
 
 pub size-of-spec : {M : Type 1} → statement M
-size-of-spec = tie.close (tie.spec length-of-requires returns returns-2)
+size-of-spec = tie.close (tie.spec length-of-requires lesser-requires returns)

@@ -4,6 +4,7 @@ use mathlib.Core.Path.{_≡_}
 use Prim.Native.Nat.{_-_, _≤_, _<_}
 use native.Mathlib.Omega.{arith}
 use lib.ListN.{length, length-set}
+use Rattle.binar.specs.Rows.{width}
 use Rattle.blocks.proofs.Values.{unmapped}
 use Rattle.triangular.specs.Readings.{basisOf, formsOf}
 use Rattle.triangular.proofs.Drawing.{Summed, summed-start, summed-next}
@@ -13,7 +14,7 @@ use Rattle.triangular.proofs.sums.Tie as tie
 
 abbrev Inv-loop : tie.InvT-loop
 Inv-loop t₀ k i₀ t i =
-    (1 ≤ i) × (i ≤ k) × (length (t .basis) ≡ 64) × (length (t .forms) ≡ 64) × Summed k (t₀ .basis) i (t .basis) × Summed k (t₀ .forms) i (t .forms)
+    (1 ≤ i) × (i ≤ k) × (length (t .basis) ≡ width) × (length (t .forms) ≡ width) × Summed k (t₀ .basis) i (t .basis) × Summed k (t₀ .forms) i (t .forms)
 
 abbrev μ-loop : tie.MeasureT-loop
 μ-loop t₀ k i₀ t i = k - i

@@ -4,11 +4,13 @@ use mathlib.Core.Path.{_≡_, refl, sym, ap, _∙_}
 use Prim.Native.Nat.{ℕ, _-_, _≤_, _<_, min}
 use native.Mathlib.Omega.{arith}
 use lib.ListN.{length, length-set, length-take, getD, take}
-use Rattle.binar.specs.Rows.{blank, width}
+use Rattle.binar.specs.Rows.{width}
+use Rattle.binar.specs.inner.Blank.{blank}
 use Rattle.binar.proofs.Ones.{unit-is}
 use Rattle.blocks.specs.declared.Block.{Block}
 use Rattle.blocks.specs.Blocks.{vals, rowsOf}
 use Rattle.blocks.specs.Matrices.{units}
+use Rattle.blocks.proofs.Units.{units-zero}
 use Rattle.blocks.proofs.Values.{write-next, rows-get, take-counted}
 use Rattle.triangular.specs.Readings.{basisOf, formsOf, coreOf}
 use Rattle.triangular.proofs.Copies.{units-next}
@@ -18,18 +20,14 @@ use Rattle.triangular.proofs.whole.Tie as tie
 
 abbrev Inv-loop : tie.InvT-loop
 Inv-loop core k s₀ i₀ s i =
-    (i ≤ k) × (s .count ≡ k) × (length (s .basis) ≡ 64) × (length (s .forms) ≡ 64) × (take i (vals (s .basis)) ≡ units i) × (take i (vals (s .forms)) ≡ take i (rowsOf core))
+    (i ≤ k) × (s .count ≡ k) × (length (s .basis) ≡ width) × (length (s .forms) ≡ width) × (take i (vals (s .basis)) ≡ units i) × (take i (vals (s .forms)) ≡ take i (rowsOf core))
 
 abbrev μ-loop : tie.MeasureT-loop
 μ-loop core k s₀ i₀ s i = k - i
 
-core-length : (b : Block) → length (coreOf b) ≡ min 64 (length (rowsOf b))
-unfolding coreOf width
-core-length b = length-take 64 (rowsOf b)
-
-below : (i : ℕ) → i < 64 → i < width
-unfolding width
-below i h = h
+core-length : (b : Block) → length (coreOf b) ≡ min width (length (rowsOf b))
+unfolding coreOf
+core-length b = length-take width (rowsOf b)
 
 size-of-requires : tie.Need-size-of-requires Inv-loop μ-loop
 size-of-requires c κs = search needs
@@ -38,8 +36,7 @@ zero-requires : tie.Need-zero-requires Inv-loop μ-loop
 zero-requires c κs = search needs
 
 loop-holds : tie.Need-loop-holds Inv-loop μ-loop
-unfolding units
-loop-holds c = (search needs, refl, search needs, search needs, refl, refl)
+loop-holds c = (search needs, refl, search needs, search needs, sym units-zero, refl)
 
 unit-requires : tie.Need-unit-requires Inv-loop μ-loop
 unit-requires c κs = search needs
@@ -73,17 +70,17 @@ loop-again c =
     let at = c .before .before .before .loop in
     let core = c .before .before .before .before .before .before .args .t1 in
     let k = c .before .before .before .before .before .size-of in
-    let h : at .i < min 64 (length (rowsOf core)) = omega (arith, k .ensures .1, core-length core) in (
+    let h : at .i < min width (length (rowsOf core)) = omega (arith, k .ensures .1, core-length core) in (
       search needs,
       at .inv .1,
       simp length-set (at .inv .2),
       simp length-set (at .inv .3),
-      units-next (at .s .basis) (at .i) (c .before .unit .result) (omega (arith, at .inv .2)) (c .before .unit .ensures ∙ unit-is (at .i) (below (at .i) (omega arith))) (at .inv .4),
+      units-next (at .s .basis) (at .i) (c .before .unit .result) (omega (arith, at .inv .2)) (c .before .unit .ensures ∙ unit-is (at .i) (omega arith)) (at .inv .4),
       write-next (rowsOf core) (at .s .forms) (at .i) (getD (core .rows) (at .i) blank) (omega arith) (omega (arith, at .inv .3)) (at .inv .5) (rows-get core (at .i) (omega arith)),
     )
 
 returns : tie.Need-returns Inv-loop μ-loop
-unfolding basisOf formsOf coreOf width
+unfolding basisOf formsOf coreOf
 returns c =
     let at = c .before .loop in
     let core = c .before .before .before .before .args .t1 in
@@ -93,7 +90,7 @@ returns c =
       omega (arith, at .inv .1, k .ensures .0),
       e,
       ap (λ (n : ℕ). take n (vals (at .s .basis))) (sym i) ∙ at .inv .4 ∙ ap units (i ∙ e),
-      ap (λ (n : ℕ). take n (vals (at .s .forms))) (sym i) ∙ at .inv .5 ∙ ap (λ (n : ℕ). take n (rowsOf core)) (i ∙ e) ∙ take-counted 64 (rowsOf core),
+      ap (λ (n : ℕ). take n (vals (at .s .forms))) (sym i) ∙ at .inv .5 ∙ ap (λ (n : ℕ). take n (rowsOf core)) (i ∙ e) ∙ take-counted width (rowsOf core),
     )
 
 pub whole-spec : {M : Type 1} → statement M

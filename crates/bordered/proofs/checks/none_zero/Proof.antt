@@ -2,7 +2,7 @@
 -- Assumes nothing.
 use Rattle.symplectic.proofs.Tests.{all-next, all-fails, all-end}
 use Rattle.symplectic.specs.Turns.{allOf}
-use Rattle.blocks.specs.Blocks.{rowsOf}
+use Rattle.blocks.specs.Blocks.{room, rowsOf}
 use Rattle.blocks.proofs.Values.{rows-get, rows-fit, unmapped}
 use lib.ListN.{length, take}
 use lib.Dec.{eqb}
@@ -15,7 +15,7 @@ use Rattle.bordered.proofs.checks.none_zero.Statement.{statement}
 use Rattle.bordered.proofs.checks.none_zero.Tie as tie
 
 abbrev Inv-loop : tie.InvT-loop
-Inv-loop b k i₀ i = (i ≤ k) × (k ≤ 65) × (allOf (λ v. not (eqb v 0)) (take i (rowsOf b)) ≡ true)
+Inv-loop b k i₀ i = (i ≤ k) × (k ≤ room) × (allOf (λ v. not (eqb v 0)) (take i (rowsOf b)) ≡ true)
 
 abbrev μ-loop : tie.MeasureT-loop
 μ-loop b k i₀ i = k - i

@@ -1,9 +1,10 @@
 -- `relation_sum` adds the vectors behind the peeled ones one by one, by `sum-more`.
 -- Assumes nothing.
-use Rattle.bordered.proofs.Marked.{marked-sum, sum-more, sum-done}
+use Rattle.bordered.proofs.Relation.{marked-sum, sum-more, sum-done}
 use Rattle.bordered.specs.Checks.{relationSum}
-use Rattle.family.specs.Readings.{marked, listOf}
-use Rattle.blocks.specs.Blocks.{rowsOf}
+use Rattle.family.specs.Readings.{marked}
+use Rattle.family.proofs.Marked.{list-marked}
+use Rattle.blocks.specs.Blocks.{room, rowsOf}
 use Rattle.blocks.proofs.Values.{rows-get, rows-fit, unmapped}
 use Rattle.binar.proofs.Sums.{zero-sum}
 use Rattle.binar.specs.Rows.{val}
@@ -18,7 +19,7 @@ use Rattle.bordered.proofs.checks.relation_sum.Tie as tie
 
 abbrev Inv-loop : tie.InvT-loop
 Inv-loop vectors k w₀ i₀ w i =
-    (k ≤ 65) × (val w ⊕ relationSum (marked 0 (drop i (rowsOf vectors))) ≡ relationSum (marked i₀ (rowsOf vectors)))
+    (k ≤ room) × (val w ⊕ relationSum (marked 0 (drop i (rowsOf vectors))) ≡ relationSum (marked i₀ (rowsOf vectors)))
 
 abbrev μ-loop : tie.MeasureT-loop
 μ-loop vectors k w₀ i₀ w i = k - i
@@ -63,11 +64,11 @@ loop-again c =
     )
 
 returns : tie.Need-returns Inv-loop μ-loop
-unfolding listOf
 returns c =
     let f = c .before .before .before .before .before .args .f in
     let at = c .before .loop in
-    sum-done (rowsOf (f .vectors)) (at .i) (val (at .w)) (relationSum (listOf f)) (omega (arith, c .before .before .before .length-of .ensures)) (at .inv .1)
+    sum-done (rowsOf (f .vectors)) (at .i) (val (at .w)) (relationSum (marked (f .peeled) (rowsOf (f .vectors)))) (omega (arith, c .before .before .before .length-of .ensures)) (at .inv .1)
+    ∙ ap relationSum (sym (list-marked f))
 
 pub relation-sum-spec : {M : Type 1} → statement M
 relation-sum-spec =

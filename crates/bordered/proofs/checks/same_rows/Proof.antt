@@ -3,7 +3,7 @@
 use Rattle.bordered.proofs.Onwards.{onward, stopped, same-open, same-left}
 use Rattle.bordered.specs.Checks.{sameRows}
 use Rattle.symplectic.proofs.Arrays.{qubits-le, matrix-length, matrix-get}
-use Rattle.symplectic.specs.Actions.{qubits, matrix}
+use Rattle.symplectic.specs.Actions.{mostRows, qubits, matrix}
 use Rattle.blocks.proofs.Values.{unmapped}
 use borrow.Author.Tests.{not-true, not-false}
 use lib.ListN.{length, getD, drop}
@@ -16,7 +16,7 @@ use Rattle.bordered.proofs.checks.same_rows.Statement.{statement}
 use Rattle.bordered.proofs.checks.same_rows.Tie as tie
 
 abbrev Inv-loop : tie.InvT-loop
-Inv-loop a b n k i₀ i = (i ≤ k) × (k ≤ 64) × (sameRows (drop i (matrix a)) (drop i (matrix b)) ≡ sameRows (matrix a) (matrix b))
+Inv-loop a b n k i₀ i = (i ≤ k) × (k ≤ mostRows) × (sameRows (drop i (matrix a)) (drop i (matrix b)) ≡ sameRows (matrix a) (matrix b))
 
 abbrev μ-loop : tie.MeasureT-loop
 μ-loop a b n k i₀ i = k - i
@@ -27,14 +27,14 @@ size c = matrix-length (c .args .t1) (search (needs, unmapped))
 size-2 : (c : tie.Start Inv-loop μ-loop) → length (matrix (c .args .t2)) ≡ qubits (c .args .t2) + qubits (c .args .t2)
 size-2 c = matrix-length (c .args .t2) (search (needs, unmapped))
 
-width-requires : tie.Need-width-requires Inv-loop μ-loop
-width-requires c κs = search needs
+qubits-of-requires : tie.Need-qubits-of-requires Inv-loop μ-loop
+qubits-of-requires c κs = search needs
 
 add-k : tie.Need-add-k Inv-loop μ-loop
-add-k c = omega (arith, qubits-le (c .before .args .t1), c .width .ensures)
+add-k c = omega (arith, qubits-le (c .before .args .t1), c .qubits-of .ensures)
 
 loop-holds : tie.Need-loop-holds Inv-loop μ-loop
-loop-holds c = (search needs, omega (arith, qubits-le (c .before .args .t1), c .width .ensures), refl)
+loop-holds c = (search needs, omega (arith, qubits-le (c .before .args .t1), c .qubits-of .ensures), refl)
 
 mul-equal : tie.Need-mul-equal Inv-loop μ-loop
 mul-equal c = search needs
@@ -57,7 +57,7 @@ returns c =
     let at = c .before .before .before .before .before .loop in
     let F = matrix (s .t1) in
     let G = matrix (s .t2) in
-    let h : at .i < qubits (s .t1) + qubits (s .t1) = omega (arith, c .before .before .before .before .before .before .width .ensures) in
+    let h : at .i < qubits (s .t1) + qubits (s .t1) = omega (arith, c .before .before .before .before .before .before .qubits-of .ensures) in
     let g : at .i < qubits (s .t2) + qubits (s .t2) = omega (arith, c .before .before .before .before .before .before .before .pre) in
     let test = c .before .equal .ensures ∙ ap₂ eqb (matrix-get (s .t1) (at .i) h) (matrix-get (s .t2) (at .i) g) in
     let parts = same-open F G (at .i) (omega (arith, size (c .before .before .before .before .before .before .before))) (omega (arith, size-2 (c .before .before .before .before .before .before .before))) in
@@ -75,7 +75,7 @@ loop-again c =
     let at = c .before .before .before .before .before .loop in
     let F = matrix (s .t1) in
     let G = matrix (s .t2) in
-    let h : at .i < qubits (s .t1) + qubits (s .t1) = omega (arith, c .before .before .before .before .before .before .width .ensures) in
+    let h : at .i < qubits (s .t1) + qubits (s .t1) = omega (arith, c .before .before .before .before .before .before .qubits-of .ensures) in
     let g : at .i < qubits (s .t2) + qubits (s .t2) = omega (arith, c .before .before .before .before .before .before .before .pre) in
     let test = c .before .equal .ensures ∙ ap₂ eqb (matrix-get (s .t1) (at .i) h) (matrix-get (s .t2) (at .i) g) in
     let parts = same-open F G (at .i) (omega (arith, size (c .before .before .before .before .before .before .before))) (omega (arith, size-2 (c .before .before .before .before .before .before .before))) in
@@ -85,7 +85,7 @@ returns-2 : tie.Need-returns-2 Inv-loop μ-loop
 returns-2 c =
     let s = c .before .before .before .args in
     let at = c .before .loop in
-    sym (same-left (matrix (s .t1)) (matrix (s .t2)) (at .i) (omega (arith, size (c .before .before .before), c .before .before .width .ensures)) (omega (arith, size-2 (c .before .before .before), c .before .before .before .pre, c .before .before .width .ensures))) ∙ at .inv .2
+    sym (same-left (matrix (s .t1)) (matrix (s .t2)) (at .i) (omega (arith, size (c .before .before .before), c .before .before .qubits-of .ensures)) (omega (arith, size-2 (c .before .before .before), c .before .before .before .pre, c .before .before .qubits-of .ensures))) ∙ at .inv .2
 
 pub same-rows-spec : {M : Type 1} → statement M
 same-rows-spec =
@@ -93,7 +93,7 @@ same-rows-spec =
     (tie.spec
     Inv-loop
     μ-loop
-    width-requires
+    qubits-of-requires
     add-k
     loop-holds
     mul-equal

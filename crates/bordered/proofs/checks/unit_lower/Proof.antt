@@ -1,14 +1,16 @@
 -- `unit_lower` tests the diagonal of row after row, then each entry behind it, by `all-open` and `lower-open`.
 -- Assumes nothing.
 use Rattle.bordered.proofs.Onwards.{and-no, and-yes, onward, stopped, all-open, all-left, lower-left, lower-stopped, lower-onward}
-use Rattle.bordered.proofs.Marked.{marked-length, gram-is}
-use Rattle.bordered.specs.Readings.{rowLower}
+use Rattle.bordered.proofs.Relation.{gram-is}
+use Rattle.bordered.specs.inner.Rows.{rowLower}
 use Rattle.bordered.specs.Checks.{borderedForm, unitLower}
-use Rattle.family.specs.Readings.{marked, listOf}
+use Rattle.family.specs.Readings.{marked}
+use Rattle.family.proofs.Marked.{marked-length, list-marked}
 use Rattle.reduction.specs.Residue.{form}
-use Rattle.binar.specs.Rows.{val, blank}
+use Rattle.binar.specs.Rows.{val}
+use Rattle.binar.specs.inner.Blank.{blank}
 use Rattle.symplectic.specs.Turns.{allOf}
-use Rattle.blocks.specs.Blocks.{rowsOf}
+use Rattle.blocks.specs.Blocks.{room, rowsOf}
 use Rattle.blocks.specs.Matrices.{matmul}
 use Rattle.blocks.proofs.Products.{matmul-length}
 use Rattle.blocks.proofs.Values.{rows-get, rows-fit, unmapped}
@@ -36,7 +38,7 @@ abbrev μ-loop2 : tie.MeasureT-loop2
 
 abbrev Inv-loop : tie.InvT-loop
 Inv-loop vectors peeled rows k i₀ i =
-    (i ≤ k) × (k ≤ 65)
+    (i ≤ k) × (k ≤ room)
     × ((E : List ℕ) → rowsOf rows ≡ matmul (rowsOf vectors) E
     → unitLower (form E) (drop i (marked peeled (rowsOf vectors))) ≡ unitLower (form E) (marked peeled (rowsOf vectors)))
 
@@ -73,7 +75,7 @@ gram-requires : tie.Need-gram-requires Inv-loop2 μ-loop2 Inv-loop μ-loop
 gram-requires c κs = search needs
 
 returns : tie.Need-returns Inv-loop2 μ-loop2 Inv-loop μ-loop
-unfolding listOf rowLower
+unfolding rowLower
 returns c =
     let f = c .before .before .before .before .before .before .before .before .before .before .args .f in
     let core = rowsOf (c .before .before .before .before .before .before .before .before .before .before .args .core) in
@@ -89,6 +91,7 @@ returns c =
     (c .before .gram .ensures) (rows-get (p .result) (at .i) g) (rows-get (f .vectors) (at .i) h) (c .before .before .both-related .ensures) in
     lower-stopped (form core) l (at .i) (omega (arith, marked-length (f .peeled) vs)) (at .inv .2 core (p .ensures))
     (and-no (borderedForm (form core) a a) (allOf (λ b. not (borderedForm (form core) a b)) (drop (at .i + 1) l)) (sym entry ∙ not-true (c .before .gram .result) (c .if1 .taken)))
+    ∙ ap (unitLower (form core)) (sym (list-marked f))
 
 add-j : tie.Need-add-j Inv-loop2 μ-loop2 Inv-loop μ-loop
 add-j c = search needs
@@ -127,7 +130,6 @@ gram-requires-2 : tie.Need-gram-requires-2 Inv-loop2 μ-loop2 Inv-loop μ-loop
 gram-requires-2 c κs = search needs
 
 returns-2 : tie.Need-returns-2 Inv-loop2 μ-loop2 Inv-loop μ-loop
-unfolding listOf
 returns-2 c =
     let f = c .before .before .before .before .before .before .before .before .before .before .before .before .before .before .before .before .args .f in
     let vs = rowsOf (f .vectors) in
@@ -149,6 +151,7 @@ returns-2 c =
     lower-stopped (form E) l i (omega (arith, marked-length (f .peeled) vs)) (c .before .before .before .before .before .before .before .before .before .before .before .before .loop .inv .2 E (p .ensures))
     (stopped (test y) (allOf test (drop (at .j + 1) l)) (allOf test (drop (at .j) l)) (rowLower (form E) l i) (at .inv .2 E (p .ensures))
     (all-open test (0, false) l (at .j) (omega (arith, marked-length (f .peeled) vs))) (ap not (sym entry ∙ c .if2 .taken)))
+    ∙ ap (unitLower (form E)) (sym (list-marked f))
 
 add-j-2 : tie.Need-add-j-2 Inv-loop2 μ-loop2 Inv-loop μ-loop
 add-j-2 c = search needs
@@ -204,13 +207,13 @@ loop-again c =
     )
 
 returns-3 : tie.Need-returns-3 Inv-loop2 μ-loop2 Inv-loop μ-loop
-unfolding listOf
 returns-3 c =
     let f = c .before .before .before .before .before .args .f in
     let E = rowsOf (c .before .before .before .before .before .args .core) in
     let vs = rowsOf (f .vectors) in
     let at = c .before .loop in
     sym (lower-left (form E) (marked (f .peeled) vs) (at .i) (omega (arith, marked-length (f .peeled) vs, c .before .before .length-of .ensures))) ∙ at .inv .2 E (c .before .before .before .product .ensures)
+    ∙ ap (unitLower (form E)) (sym (list-marked f))
 
 pub unit-lower-spec : {M : Type 1} → statement M
 unit-lower-spec =

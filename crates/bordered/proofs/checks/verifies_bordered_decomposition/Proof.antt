@@ -2,7 +2,7 @@
 -- Assumes nothing.
 use Rattle.bordered.proofs.Verdicts.{chain, chain-left, chain-stops, list-tests}
 use Rattle.bordered.specs.Checks.{sameRows}
-use Rattle.symplectic.proofs.Arrays.{qubits-le}
+use Rattle.symplectic.proofs.Arrays.{qubits-le, qubits-capped}
 use Rattle.symplectic.specs.Replies.{fitAll}
 use Rattle.symplectic.specs.Turns.{allOf, product}
 use Rattle.symplectic.specs.Actions.{qubits, matrix}
@@ -52,11 +52,11 @@ returns-2 c =
     let G = sameRows (product n vs) F in
     chain-stops (A ∷ []) B (chain (D ∷ []) G) (sym (c .before .before .before .one-more .ensures ∙ ap (λ (m : ℕ). eqb m (suc (s .r))) (c .before .before .before .before .length-of .ensures)) ∙ not-false (c .before .before .before .one-more .result) (c .before .before .if1 .left), tt) (sym (c .before .none-zero .ensures) ∙ not-true (c .before .none-zero .result) (c .if2 .taken)) ∙ list-tests n F (s .r) vs
 
-width-requires : tie.Need-width-requires
-width-requires c κs = search needs
+qubits-of-requires : tie.Need-qubits-of-requires
+qubits-of-requires c κs = search needs
 
 add-fit-all : tie.Need-add-fit-all
-add-fit-all c = omega (arith, qubits-le (c .before .before .before .before .before .before .args .a), c .width .ensures)
+add-fit-all c = omega (arith, qubits-le (c .before .before .before .before .before .before .args .a), c .qubits-of .ensures)
 
 fit-all-requires : tie.Need-fit-all-requires
 fit-all-requires c κs = search needs
@@ -71,17 +71,15 @@ returns-3 c =
     let B = allOf (λ v. not (eqb v 0)) vs in
     let D = fitAll (n + n) vs in
     let G = sameRows (product n vs) F in
-    chain-stops (A ∷ B ∷ []) D G (sym (c .before .before .before .before .before .before .one-more .ensures ∙ ap (λ (m : ℕ). eqb m (suc (s .r))) (c .before .before .before .before .before .before .before .length-of .ensures)) ∙ not-false (c .before .before .before .before .before .before .one-more .result) (c .before .before .before .before .before .if1 .left), (sym (c .before .before .before .before .none-zero .ensures) ∙ not-false (c .before .before .before .before .none-zero .result) (c .before .before .before .if2 .left), tt)) (sym (c .before .fit-all .ensures ∙ ap (λ (m : ℕ). fitAll (m + m) vs) (c .before .before .width .ensures)) ∙ not-true (c .before .fit-all .result) (c .if3 .taken)) ∙ list-tests n F (s .r) vs
+    chain-stops (A ∷ B ∷ []) D G (sym (c .before .before .before .before .before .before .one-more .ensures ∙ ap (λ (m : ℕ). eqb m (suc (s .r))) (c .before .before .before .before .before .before .before .length-of .ensures)) ∙ not-false (c .before .before .before .before .before .before .one-more .result) (c .before .before .before .before .before .if1 .left), (sym (c .before .before .before .before .none-zero .ensures) ∙ not-false (c .before .before .before .before .none-zero .result) (c .before .before .before .if2 .left), tt)) (sym (c .before .fit-all .ensures ∙ ap (λ (m : ℕ). fitAll (m + m) vs) (c .before .before .qubits-of .ensures)) ∙ not-true (c .before .fit-all .result) (c .if3 .taken)) ∙ list-tests n F (s .r) vs
 
-product-of-requires : tie.Need-product-of-requires
-product-of-requires c κs = search needs
+product-requires : tie.Need-product-requires
+product-requires c κs = search needs
 
 same-rows-requires : tie.Need-same-rows-requires
-unfolding qubits
-same-rows-requires c κs = c .product-of .ensures .0
+same-rows-requires c κs = c .product .ensures .0 ∙ sym (qubits-capped (c .before .before .before .before .before .before .before .before .before .args .a))
 
 returns-4 : tie.Need-returns-4
-unfolding qubits
 returns-4 c =
     let s = c .before .before .before .before .before .before .before .before .before .before .args in
     let n = qubits (s .a) in
@@ -91,7 +89,7 @@ returns-4 c =
     let B = allOf (λ v. not (eqb v 0)) vs in
     let D = fitAll (n + n) vs in
     let G = sameRows (product n vs) F in
-    chain-left (A ∷ B ∷ D ∷ []) G (c .same-rows .result) (sym (c .before .before .before .before .before .before .before .before .one-more .ensures ∙ ap (λ (m : ℕ). eqb m (suc (s .r))) (c .before .before .before .before .before .before .before .before .before .length-of .ensures)) ∙ not-false (c .before .before .before .before .before .before .before .before .one-more .result) (c .before .before .before .before .before .before .before .if1 .left), (sym (c .before .before .before .before .before .before .none-zero .ensures) ∙ not-false (c .before .before .before .before .before .before .none-zero .result) (c .before .before .before .before .before .if2 .left), (sym (c .before .before .before .fit-all .ensures ∙ ap (λ (m : ℕ). fitAll (m + m) vs) (c .before .before .before .before .width .ensures)) ∙ not-false (c .before .before .before .fit-all .result) (c .before .before .if3 .left), tt))) (c .same-rows .ensures ∙ ap (λ (P : List ℕ). sameRows P F) (c .before .product-of .ensures .1)) ∙ list-tests n F (s .r) vs
+    chain-left (A ∷ B ∷ D ∷ []) G (c .same-rows .result) (sym (c .before .before .before .before .before .before .before .before .one-more .ensures ∙ ap (λ (m : ℕ). eqb m (suc (s .r))) (c .before .before .before .before .before .before .before .before .before .length-of .ensures)) ∙ not-false (c .before .before .before .before .before .before .before .before .one-more .result) (c .before .before .before .before .before .before .before .if1 .left), (sym (c .before .before .before .before .before .before .none-zero .ensures) ∙ not-false (c .before .before .before .before .before .before .none-zero .result) (c .before .before .before .before .before .if2 .left), (sym (c .before .before .before .fit-all .ensures ∙ ap (λ (m : ℕ). fitAll (m + m) vs) (c .before .before .before .before .qubits-of .ensures)) ∙ not-false (c .before .before .before .fit-all .result) (c .before .before .if3 .left), tt))) (c .same-rows .ensures ∙ ap (λ (P : List ℕ). sameRows P F) (c .before .product .ensures .1 ∙ ap (λ (m : ℕ). product m vs) (sym (qubits-capped (s .a))))) ∙ list-tests n F (s .r) vs
 
 pub verifies-bordered-decomposition-spec : {M : Type 1} → statement M
 verifies-bordered-decomposition-spec =
@@ -102,10 +100,10 @@ verifies-bordered-decomposition-spec =
     returns
     none-zero-requires
     returns-2
-    width-requires
+    qubits-of-requires
     add-fit-all
     fit-all-requires
     returns-3
-    product-of-requires
+    product-requires
     same-rows-requires
     returns-4)

@@ -12,14 +12,17 @@ use lib.ListN.{length, getD}
 use Prim.Native.Nat.{ℕ, suc, _+_, _-_, _*_, _^_, _≤_, _<_}
 use Rattle.binar.specs.declared.Row.{Row}
 use Rattle.binar.specs.Bits.{_⊕_, dot}
-use Rattle.binar.specs.Rows.{val, blank, lowest}
+use Rattle.binar.specs.Rows.{width, val, lowest}
+use Rattle.binar.specs.inner.Blank.{blank}
 use Rattle.blocks.specs.Matrices.{times, matmul}
 use Rattle.blocks.proofs.Values.{vals-get, unmapped}
 use Rattle.reduction.specs.Residue.{form}
 use Rattle.triangular.specs.Spaces.{complement}
 use Rattle.triangular.specs.Search.{Outcome, failed, afterRest, draws, search as searchOf, Verdict, budgeted}
-use Rattle.triangular.specs.Readings.{basisOf, formsOf, seenBack}
+use Rattle.triangular.specs.Readings.{basisOf, formsOf}
+use Rattle.triangular.specs.inner.Backward.{seenBack}
 use Rattle.triangular.proofs.Cores.{basis-length, core-drawn, form-dot, form-row as form-of-row}
+use Rattle.triangular.proofs.FormRows.{complement-forms}
 use Rattle.triangular.proofs.Drawing.{next-is, next-column, next-drawn}
 use denote.Enum.Declared.{tagOf}
 use borrow.Fn.Kinds.{In}
@@ -41,7 +44,7 @@ use Rattle.binar.proofs.next.Reads as next-reads
 use Rattle.binar.proofs.sum.Reads as sum-reads
 use Rattle.binar.proofs.zero.Reads as zero-reads
 use Rattle.blocks.proofs.push.Reads as push-reads
-use Rattle.triangular.proofs.bare.Reads as bare-reads
+use Rattle.triangular.proofs.without_list.Reads as without-list-reads
 use Rattle.triangular.proofs.is_alternating.Reads as is-alternating-reads
 use Rattle.triangular.proofs.first_dot.Reads as first-dot-reads
 use Rattle.triangular.proofs.dropped.Reads as dropped-reads
@@ -73,8 +76,8 @@ draw-claims t = (first-dot-reads.Asked, first-dot-reads.Learnt, dropped-reads.As
 
 abbrev pub space-claims : ℕ → try-space-lts.Claims
 space-claims t = (
-  bare-reads.Asked,
-  bare-reads.Learnt,
+  without-list-reads.Asked,
+  without-list-reads.Learnt,
   is-alternating-reads.Asked,
   is-alternating-reads.Learnt,
   sums-reads.Asked,
@@ -114,7 +117,7 @@ not-failed Spent h = inr refl
 pub draw-size : (t : ℕ) (c : try-draw-lts.Start (draw-claims t) (try-draw-at t) try-draw.Post) → length (basisOf (c .args .s)) ≡ c .args .s .count
 draw-size t c = basis-length (c .args .s) (omega (arith, long c, c .pre .1 .1))
   where
-    long : (c : try-draw-lts.Start (draw-claims t) (try-draw-at t) try-draw.Post) → length (c .args .s .basis) ≡ 64
+    long : (c : try-draw-lts.Start (draw-claims t) (try-draw-at t) try-draw.Post) → length (c .args .s .basis) ≡ width
     long c = search (needs, unmapped)
 
 module _ (t : ℕ) (c : try-draw-lts.After-try-space (draw-claims t) (try-draw-at t) try-draw.Post) (E : List ℕ)
@@ -128,10 +131,11 @@ module _ (t : ℕ) (c : try-draw-lts.After-try-space (draw-claims t) (try-draw-a
       let start = c .before .before .before in
       let drawn = start .pre .1 .4 in
       let rest = c .before .dropped .ensures in
-      let f = core-drawn (basisOf (start .args .s)) (formsOf (start .args .s)) E fit (drawn .0) (val (start .args .p)) (val (start .args .f)) (drawn .1) (drawn .2) in (
+      let f = core-drawn (basisOf (start .args .s)) (formsOf (start .args .s)) E fit (drawn .0) (val (start .args .p)) (val (start .args .f)) (drawn .1) (drawn .2) in
+      let both = complement-forms (start .args .s) (c .before .dropped .result) (dot (val (start .args .f))) E (rest .1) (rest .2) fit in (
         rest .0,
-        rest .1 ∙ ap (λ (h : ℕ → Bool). complement h (basisOf (start .args .s))) (sym (form-of-row E (val (start .args .p)) (val (start .args .f)) f)),
-        c .try-space .ensures .1 E (rest .2 E fit),
+        both .0 ∙ ap (λ (h : ℕ → Bool). complement h (basisOf (start .args .s))) (sym (form-of-row E (val (start .args .p)) (val (start .args .f)) f)),
+        c .try-space .ensures .1 E (both .1),
       )
 
   abbrev pub rest-out : Outcome
@@ -151,7 +155,7 @@ rest-size t c E fit =
     let start = c .before .before .before in
     basis-length (c .before .dropped .result) (omega (arith, draw-rest t c E fit .0, start .pre .1 .1, long c))
   where
-    long : (c : try-draw-lts.After-try-space (draw-claims t) (try-draw-at t) try-draw.Post) → length (c .before .dropped .result .basis) ≡ 64
+    long : (c : try-draw-lts.After-try-space (draw-claims t) (try-draw-at t) try-draw.Post) → length (c .before .dropped .result .basis) ≡ width
     long c = search (needs, unmapped)
 
 abbrev pub try-space-Inv-loop : try-space-lts.InvT-loop
@@ -197,7 +201,7 @@ module _ (t : ℕ) (c : try-space-lts.After-next (space-claims t) (try-space-at 
       next-drawn (next-start .args .s .count) (val (ones .result)) (val (c .before .before .before .loop .c)) (val (c .next .result)) (next-start .pre .1 .0) (ones .ensures) ahead (c .next .ensures)
 
 module _ (t : ℕ) (c : try-space-lts.After-lowest (space-claims t) (try-space-at t) try-space.Post try-space-Inv-loop try-space-μ-loop) where
-  pub small : c .lowest .result < 64
+  pub small : c .lowest .result < width
   small = omega (arith, column t (c .before .before) (c .lowest .result) (c .lowest .ensures), next-start t (c .before .before) .pre .1 .0)
 
   -- a look is left

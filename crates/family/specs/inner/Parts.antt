@@ -1,0 +1,34 @@
+-- What the values that a family is made from mean: a vector picked, the members beside a pair, a simplex, and peeled vectors.
+-- Assumes nothing.
+use mathlib.Core.Bool.{Bool, false}
+use mathlib.Core.List.{List, _++_, map}
+use mathlib.Core.Option.{Option, none, some}
+use Prim.Native.Nat.{ℕ, _-_}
+use lib.ListN.{drop}
+use Rattle.binar.specs.Rows.{val}
+use Rattle.blocks.specs.Blocks.{rowsOf}
+use Rattle.blocks.specs.Matrices.{times}
+use Rattle.blocks.specs.inner.Lists.{without}
+use Rattle.family.specs.declared.Picked.{Picked}
+use Rattle.family.specs.declared.Picked.the-variants.{Vector, Nothing}
+use Rattle.family.specs.declared.Simplex.{Simplex}
+use Rattle.family.specs.Readings.{ifMade}
+
+-- a vector beside its form row
+abbrev pub besideRow : List ℕ → ℕ → ℕ × ℕ
+besideRow E v = (v, times v E)
+
+abbrev pub pickedOf : Picked → Option (ℕ × ℕ)
+pickedOf (Vector member row) = some (val member, val row)
+pickedOf Nothing = none
+
+-- the members that are neither the first nor the j-th
+unfoldable pub othersOf : ℕ → List ℕ → List ℕ
+othersOf j B = without (j - 1) (drop 1 B)
+
+unfoldable pub simplexOf : Simplex → Option (List ℕ)
+simplexOf s = ifMade (s .construction) (rowsOf (s .vectors))
+
+-- peeled vectors, and a family behind them
+unfoldable pub peeledBefore : List ℕ → List (ℕ × Bool) → List (ℕ × Bool)
+peeledBefore vs l = map (λ v. (v, false)) vs ++ l

@@ -1,0 +1,14 @@
+-- When an answer is that of a record, and when a record has room in the buffers.
+-- Assumes nothing.
+use mathlib.Core.Path.{_≡_}
+use Prim.Native.Nat.{_≤_}
+use Rattle.symplectic.specs.declared.Figures.{Figures}
+use Rattle.replay.specs.declared.Case.{Case}
+
+-- the answer is that of the record
+unfoldable pub Alike : Case → Figures → Type 0
+Alike c a = (a .number ≡ c .number) × (a .count ≡ c .count) × (a .looks ≡ c .looks)
+
+-- the record's words have room in the buffers
+abbrev pub HasRoom : Case → Type 0
+HasRoom c = (c .size ≤ 8) × (c .lent ≤ 320) × (c .room ≤ 1024) × (c .count ≤ 160)

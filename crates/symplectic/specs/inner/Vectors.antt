@@ -1,0 +1,21 @@
+-- A vector sent through turns, a vector with its halves exchanged, and one row of the symplectic test.
+-- Assumes nothing.
+use mathlib.Core.Bool.{Bool}
+use mathlib.Core.List.{List, [], _∷_, zip}
+use Prim.Native.Nat.{ℕ, _+_, _*_, _^_}
+use lib.ListN.{getD}
+use Rattle.blocks.specs.Matrices.{units}
+use Rattle.symplectic.specs.Turns.{xBits, zBits, turn, allOf, pairAlike}
+
+-- a vector sent through the turns of a list, in order
+abbrev pub run : ℕ → List ℕ → ℕ → ℕ
+run n [] u = u
+run n (v ∷ vs) u = run n vs (turn n v u)
+
+-- row i pairs with every row as its basis vector does with theirs
+unfoldable pub pairsAsBasis : ℕ → List ℕ → ℕ → Bool
+pairsAsBasis n F i = allOf (pairAlike n (getD F i 0, 2 ^ i)) (zip F (units (n + n)))
+
+-- a vector with its halves exchanged
+unfoldable pub swapHalves : ℕ → ℕ → ℕ
+swapHalves n v = xBits n v * 2 ^ n + zBits n v
