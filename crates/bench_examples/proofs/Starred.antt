@@ -1,7 +1,7 @@
 -- The one computed theorem: every starred example of document 01, as the definitions answer it.
 -- Assumes nothing.
 use mathlib.Core.Path.{_≡_, refl}
-use mathlib.Core.List.{map, zip, zipWith}
+use mathlib.Core.List.{map, zip, zipWith, flatten}
 use Rattle.bench_examples.specs.Table.{Example, answer, table}
 use Rattle.binar.specs.Bits.{odd, bit, _⊕_, weight, dot}
 use Rattle.blocks.specs.Matrices.{times, units, dots}
@@ -22,8 +22,8 @@ use Rattle.gates.specs.Sequences.{readsTwo, gateQuestions, sequenceQuestions, s
 use Rattle.gates.specs.Sheet.{sheet, gate, turnVector}
 use Rattle.job.specs.Files.{littleEndian, part, number, qubitCount, entryCount, entry, partSize, entryPasses, entriesPass, fileQuestions}
 use Rattle.lines.specs.Lines.{decimalIn, decimal, lettersFrom, letters, load, spelled, line, fileLine}
-use Rattle.printout.specs.Printout.{wordsOfBytes, entryAction, minLine, greedyLine, entryLines, printout}
+use Rattle.printout.specs.Printout.{wordsOfBytes, entryAction, minLine, greedyLine, entryLines, fileLines, printout}
 
 pub starred : map (λ (e : Example). answer (e .call)) table ≡ map (λ (e : Example). e .expected) table
-unfolding table answer zip zipWith odd bit _⊕_ weight dot times units dots rowsOfWords wordOf wordsOfRows laid firstOne unevenWith firstUneven pick fitAll sizeQuestion countQuestion actionQuestions listQuestions xBits zBits pairing turn followed product pairAlike symplectic identityPlus columns reduced rank rowReduceWithTransform residue reduction basis transform timesTransposed core form draws search budgeted complement symmetricWith isAlternating unitLower validate verifiesBordered checkedList borderedList splitAt withPartner fromFirst symplecticSimplex peeled borderedFamily besideBasis firstNonzero nextTransvection recorded greedyList greedyReply coreSearch minimalReply readsTwo gateQuestions sequenceQuestions sequenceTurns gatesReply sheet gate turnVector littleEndian part number qubitCount entryCount entry partSize entryPasses entriesPass fileQuestions decimalIn decimal lettersFrom letters load spelled line fileLine wordsOfBytes entryAction minLine greedyLine entryLines printout
+unfolding table answer zip zipWith flatten odd bit _⊕_ weight dot times units dots rowsOfWords wordOf wordsOfRows laid firstOne unevenWith firstUneven pick fitAll sizeQuestion countQuestion actionQuestions listQuestions xBits zBits pairing turn followed product pairAlike symplectic identityPlus columns reduced rank rowReduceWithTransform residue reduction basis transform timesTransposed core form draws search budgeted complement symmetricWith isAlternating unitLower validate verifiesBordered checkedList borderedList splitAt withPartner fromFirst symplecticSimplex peeled borderedFamily besideBasis firstNonzero nextTransvection recorded greedyList greedyReply coreSearch minimalReply readsTwo gateQuestions sequenceQuestions sequenceTurns gatesReply sheet gate turnVector littleEndian part number qubitCount entryCount entry partSize entryPasses entriesPass fileQuestions decimalIn decimal lettersFrom letters load spelled line fileLine wordsOfBytes entryAction minLine greedyLine entryLines fileLines printout
 starred = refl

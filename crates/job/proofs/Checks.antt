@@ -131,3 +131,11 @@ module _ (file : List ℕ) where
     pub passed-entry : (i : ℕ) → i < entryCount file → entryPasses file (entry file i) ≡ true
     unfolding last
     passed-entry = entries-known file (entryCount file) (ask-passed (entriesPass file (entryCount file)) 12 0 (behind-size .1) .0)
+
+    -- its entries stand within it, and it is not too long
+    pub passed-length : (headSize + entrySize * entryCount file ≤ length file) × (length file ≤ longestFile)
+    unfolding lengthPasses
+    passed-length =
+        let low = and-eq-true-iff (leb headSize (length file)) (leb (length file) longestFile && leb (headSize + entrySize * entryCount file) (length file)) .0 (behind-length .0) .1 in
+        let k = and-eq-true-iff (leb (length file) longestFile) (leb (headSize + entrySize * entryCount file) (length file)) .0 low in
+        (leb-true (headSize + entrySize * entryCount file) (length file) (k .1), leb-true (length file) longestFile (k .0))

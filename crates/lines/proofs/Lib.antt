@@ -1,4 +1,5 @@
 pub mod Cuts
+pub mod Laid
 pub mod Decimals
 pub mod Spelling
 pub mod Fits

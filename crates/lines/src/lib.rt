@@ -5,11 +5,11 @@ use symplectic::Figures;
 ghost use mathlib.Core.Path.{_≡_};
 ghost use mathlib.Core.List.{[], _∷_, _++_};
 ghost use Prim.Native.Nat.{_+_};
-ghost use lib.ListN.{take};
+ghost use lib.ListN.{length, take};
 ghost use Rattle.binar.specs.Rows.{val};
 ghost use Rattle.blocks.specs.Words.{rowsOfWords};
 ghost use Rattle.lines.specs.Lines.{decimal as decimalOf, letter as letterOf, letters as lettersOf, load as loadOf, space, spelled as spelledOf, field as fieldOf, line as lineOf, fileLine};
-ghost use Rattle.lines.specs.Bytes.{lineRoom, bytesOf, nameBytes};
+ghost use Rattle.lines.specs.Bytes.{lineRoom, bytesOf, laidBytes, nameBytes};
 ghost use Rattle.lines.specs.inner.Tallies.{tallied};
 
 // How many bytes a line has room for: the longest greedy list fits. What does not fit is cut.
@@ -31,7 +31,7 @@ struct Tally {
     unit: u64,
 }
 
-pub fn empty() -> Line
+fn empty() -> Line
     ensures { λ r. ⌜ bytesOf r ≡ [] ⌝ }
 {
     Line {
@@ -191,4 +191,21 @@ pub fn file_line(number: u64) -> Line
 {
     let l = append(empty(), b"file");
     push(field(l, tally_of(number)), 10)
+}
+
+// How many bytes a line has.
+pub fn length_of(l: Line) -> usize
+    ensures { λ r. ⌜ r ≡ length (bytesOf l) ⌝ }
+{
+    blocks::lesser(l.count, LINE_ROOM)
+}
+
+// Lays a line from the start of lent bytes.
+pub fn lay(l: Line, out: &mut [u8])
+    ensures { λ _. ⌜ now (out .exit) ≡ laidBytes (bytesOf l) (now (out .entry)) ⌝ }
+{
+    let k = blocks::lesser(length_of(l), out.len());
+    for i in 0..k {
+        out[i] = l.bytes[i];
+    }
 }

@@ -1,5 +1,8 @@
-pub mod Reading
+pub mod Words
+pub mod Lent
 pub mod Loading
-pub mod Calls
 pub mod Printing
+pub mod Numbered
+pub mod Filling
+pub mod Paging
 pub mod Whole

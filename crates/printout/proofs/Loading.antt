@@ -1,69 +1,94 @@
--- What is loaded of an entry: the rows of its action, or a refusal.
+-- What the code holds of an entry's action: its rows, or a refusal.
 -- Assumes nothing.
-use mathlib.Core.Path.{_≡_, refl, sym, ap, _∙_}
-use mathlib.Core.List.{List}
+use mathlib.Core.Path.{_≡_, refl, sym, ap, _∙_, subst}
+use mathlib.Core.List.{List, _++_}
 use mathlib.Core.Logic.{inl, inr}
-use Prim.Native.Nat.{ℕ, zero, suc, _+_, _*_}
+use Prim.Native.Nat.{ℕ, zero, suc, _+_, _*_, _≤_}
 use native.Mathlib.Omega.{arith}
-use lib.ListN.{length, take}
+use lib.ListN.{length, take, drop, replicate}
+use Rattle.symplectic.specs.Actions.{maxQubits, mostRows}
+use Rattle.symplectic.specs.declared.Figures.{Figures}
 use Rattle.symplectic.specs.Replies.{Reply}
 use Rattle.gates.specs.Sequences.{gatesReply}
+use Rattle.gates.proofs.Replied.{gates-kept}
 use Rattle.job.specs.Files.{part, qubitCount, Entry, partSize}
 use Rattle.job.proofs.Numbers.{part-rows}
-use Rattle.printout.specs.declared.Loaded.{Loaded}
+use Rattle.printout.specs.declared.EntryAction.the-variants.{Rows, Refused}
+use Rattle.printout.specs.declared.EntryRows.{EntryRows}
 use Rattle.printout.specs.Printout.{blankWords, wordsOfBytes, actionBy, entryAction}
-use Rattle.printout.specs.Loads.{Loads}
-use Rattle.printout.proofs.Reading.{words-length}
+use Rattle.printout.specs.inner.Loads.{Loads}
+use Rattle.printout.proofs.Words.{words-length}
+use Rattle.printout.proofs.Lent.{lent-told, left-words}
 
-pub of-numbers : (n : ℕ) (action : Reply) (l : Loaded) → action .number ≡ l .number → action .words ≡ take (n + n) (l .rows) → Loads n action l
-unfolding Loads
-of-numbers n action l e w = go (l .number) refl
-  where
-    go : (k : ℕ) → l .number ≡ k → Loads n action l
-    go zero z = inl (z, e ∙ z, w)
-    go (suc k) z = inr (inl (omega arith, e))
+module _ (n : ℕ) (action : Reply) (rows : List ℕ) where
+  pub loads-rows : action .figures .number ≡ 0 → action .words ≡ take (n + n) rows → Loads n action (record { found = Rows; rows = rows })
+  unfolding Loads
+  loads-rows e w = (e, w)
 
+  pub loads-refused : (number : ℕ) → (number ≡ 0 → ⊥) → action .figures .number ≡ number → Loads n action (record { found = Refused number; rows = rows })
+  unfolding Loads
+  loads-refused number h e = inl (h, e)
+
+-- of a gate sequence, by what the call tells and leaves where it is lent the first 2n of blank words
+module _ (n : ℕ) (few : n ≤ maxQubits) (bytes : List ℕ) (t : Figures) (left : List ℕ) (told : t ≡ gatesReply n bytes (take (n + n) (replicate mostRows 0)) .figures)
+    (is : left ≡ gatesReply n bytes (take (n + n) (replicate mostRows 0)) .words) where
+  fits : n + n ≤ mostRows
+  fits = omega arith
+
+  abbrev rows : List ℕ
+  rows = left ++ drop (n + n) (replicate mostRows 0)
+
+  number-is : gatesReply n bytes (blankWords (n + n)) .figures .number ≡ t .number
+  number-is = sym (ap (λ (f : Figures). f .number) (lent-told (n + n) mostRows fits (gatesReply n bytes) t told))
+
+  pub gates-loaded : t .number ≡ 0
+      → Loads n (gatesReply n bytes (blankWords (n + n))) (record { found = Rows; rows = left ++ drop (n + n) (replicate mostRows 0) })
+  gates-loaded z =
+      loads-rows n (gatesReply n bytes (blankWords (n + n))) rows (number-is ∙ z)
+      (sym (left-words (n + n) mostRows fits (gatesReply n bytes) (gates-kept n bytes) left is))
+
+  pub gates-refused : (t .number ≡ 0 → ⊥)
+      → Loads n (gatesReply n bytes (blankWords (n + n))) (record { found = Refused (t .number); rows = left ++ drop (n + n) (replicate mostRows 0) })
+  gates-refused h = loads-refused n (gatesReply n bytes (blankWords (n + n))) rows (t .number) h number-is
+
+-- of an entry, by its kind
 module _ (file : List ℕ) (e : Entry) where
+  abbrev n : ℕ
+  n = qubitCount file
+
   abbrev given : Reply
-  given = record { number = 0; count = e .count; looks = 0; words = wordsOfBytes (e .count) (part file (e .offset) (8 * e .count)) }
+  given = record { figures = record { number = 0; count = e .count; looks = 0 }; words = wordsOfBytes (e .count) (part file (e .offset) (8 * e .count)) }
 
   abbrev made : Reply
-  made = gatesReply (qubitCount file) (part file (e .offset) (partSize e)) (blankWords (qubitCount file + qubitCount file))
+  made = gatesReply n (part file (e .offset) (partSize e)) (blankWords (n + n))
 
   action-given : e .kind ≡ 0 → entryAction file e ≡ given
   unfolding entryAction
   action-given z =
-      ap (λ (k : ℕ). actionBy k (qubitCount file) (e .count) (part file (e .offset) (partSize e))) z
-      ∙ ap (λ (s : ℕ). actionBy 0 (qubitCount file) (e .count) (part file (e .offset) s)) (part-rows e z)
+      ap (λ (k : ℕ). actionBy k n (e .count) (part file (e .offset) (partSize e))) z ∙ ap (λ (s : ℕ). actionBy 0 n (e .count) (part file (e .offset) s)) (part-rows e z)
 
   action-made : (e .kind ≡ 0 → ⊥) → entryAction file e ≡ made
   unfolding entryAction
   action-made h = go (e .kind) h
     where
-      go : (k : ℕ) → (k ≡ 0 → ⊥) → actionBy k (qubitCount file) (e .count) (part file (e .offset) (partSize e)) ≡ made
+      go : (k : ℕ) → (k ≡ 0 → ⊥) → actionBy k n (e .count) (part file (e .offset) (partSize e)) ≡ made
       go zero z = absurd (z refl)
       go (suc k) z = refl
 
-  module _ (l : Loaded) where
-    pub loads-miscounted : e .kind ≡ 0 → (e .count ≡ qubitCount file + qubitCount file → ⊥) → l .number ≡ 2 → Loads (qubitCount file) (entryAction file e) l
+  module _ (rows : List ℕ) (z : e .kind ≡ 0) where
+    pub loads-miscounted : (e .count ≡ qubitCount file + qubitCount file → ⊥) → Loads (qubitCount file) (entryAction file e) (record { found = Refused 2; rows = rows })
     unfolding Loads
-    loads-miscounted z h two =
-        inr (inr (
-          two,
-          ap (λ (r : Reply). r .number) (action-given z),
-          λ m. h (sym (words-length (e .count) (part file (e .offset) (8 * e .count))) ∙ sym (ap (λ (r : Reply). length (r .words)) (action-given z)) ∙ m),
-        ))
+    loads-miscounted h =
+        subst (λ (a : Reply). Loads n a (record { found = Refused 2; rows = rows })) (sym (action-given z))
+        (inr (refl, (refl, λ m. h (sym (words-length (e .count) (part file (e .offset) (8 * e .count))) ∙ m))))
 
-    pub loads-given : e .kind ≡ 0 → e .count ≡ qubitCount file + qubitCount file → l .number ≡ 0
-        → take (e .count) (l .rows) ≡ wordsOfBytes (e .count) (part file (e .offset) (8 * e .count)) → Loads (qubitCount file) (entryAction file e) l
-    loads-given z c none w =
-        of-numbers (qubitCount file) (entryAction file e) l (ap (λ (r : Reply). r .number) (action-given z) ∙ sym none)
-        (ap (λ (r : Reply). r .words) (action-given z) ∙ sym w ∙ ap (λ (k : ℕ). take k (l .rows)) c)
+    pub loads-given : e .count ≡ qubitCount file + qubitCount file → take (e .count) rows ≡ wordsOfBytes (e .count) (part file (e .offset) (8 * e .count))
+        → Loads (qubitCount file) (entryAction file e) (record { found = Rows; rows = rows })
+    loads-given c w =
+        subst (λ (a : Reply). Loads n a (record { found = Rows; rows = rows })) (sym (action-given z))
+        (loads-rows n given rows refl (sym w ∙ ap (λ (k : ℕ). take k rows) c))
 
-    pub loads-made : (e .kind ≡ 0 → ⊥)
-        → gatesReply (qubitCount file) (part file (e .offset) (partSize e)) (blankWords (qubitCount file + qubitCount file)) .number ≡ l .number
-        → gatesReply (qubitCount file) (part file (e .offset) (partSize e)) (blankWords (qubitCount file + qubitCount file)) .words
-        ≡ take (qubitCount file + qubitCount file) (l .rows)
-        → Loads (qubitCount file) (entryAction file e) l
-    loads-made h m w =
-        of-numbers (qubitCount file) (entryAction file e) l (ap (λ (r : Reply). r .number) (action-made h) ∙ m) (ap (λ (r : Reply). r .words) (action-made h) ∙ w)
+  pub loads-made : (e .kind ≡ 0 → ⊥) → (l : EntryRows)
+      → Loads (qubitCount file) (gatesReply (qubitCount file) (part file (e .offset) (partSize e)) (blankWords (qubitCount file + qubitCount file))) l
+      → Loads (qubitCount file) (entryAction file e) l
+  loads-made h l = subst (λ (a : Reply). Loads n a l) (sym (action-made h))

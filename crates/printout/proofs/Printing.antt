@@ -1,77 +1,75 @@
--- A line by what was loaded, and by what a call tells and leaves.
+-- A line by what is held of its entry's action, and by what a call tells and leaves.
 -- Assumes nothing.
 use mathlib.Core.Path.{_≡_, refl, sym, ap, _∙_}
-use mathlib.Core.List.{List, []}
+use mathlib.Core.List.{List, [], _++_}
 use mathlib.Core.Logic.{⊎-elim}
-use Prim.Native.Nat.{ℕ, zero, suc, _+_, _^_, _≤_, _<_}
+use Prim.Native.Nat.{ℕ, zero, suc, _+_, _*_, _^_, _≤_, _<_}
 use native.Mathlib.Omega.{arith}
-use lib.ListN.{length, take, length-take}
+use lib.ListN.{length, take, drop, replicate}
 use Rattle.blocks.specs.Matrices.{All}
 use Rattle.blocks.specs.Words.{rowsOfWords}
+use Rattle.symplectic.specs.Actions.{maxQubits}
 use Rattle.symplectic.specs.declared.Figures.{Figures}
 use Rattle.symplectic.specs.Replies.{Reply, refused}
+use Rattle.job.specs.Files.{qubitCount, entry}
 use Rattle.lines.specs.Lines.{line}
 use Rattle.lines.specs.declared.Name.{Name}
 use Rattle.lines.specs.Bytes.{lineRoom, nameBytes}
-use Rattle.lines.proofs.Fits.{line-whole, name-length}
-use Rattle.printout.specs.declared.Loaded.{Loaded}
-use Rattle.printout.specs.Printout.{unlessRefusedAction}
-use Rattle.printout.specs.Loads.{Loads}
+use Rattle.lines.proofs.Fits.{mostVectors, refused-alike, line-figures}
+use Rattle.printout.specs.declared.EntryAction.{EntryAction}
+use Rattle.printout.specs.declared.EntryAction.the-variants.{Rows, Refused}
+use Rattle.printout.specs.declared.EntryRows.{EntryRows}
+use Rattle.printout.specs.Printout.{listWords, entryAction, unlessRefusedAction, entryLine}
+use Rattle.printout.specs.inner.Loads.{Holds, Loads}
+use Rattle.printout.proofs.Lent.{lent-told, left-count, left-words}
 
--- a refused line has no vectors, whatever the words
-refused-alike : (n i : ℕ) (name : List ℕ) (k : ℕ) (out : List ℕ) → line n i name (refused k 0 []) ≡ line n i name (refused k 0 out)
-unfolding line rowsOfWords
-refused-alike n i name k out = refl
+-- ---- by what is held of the action of entry i
 
--- ---- by what was loaded
+module _ (file : List ℕ) (i : ℕ) (name : List ℕ) (call : ℕ → List ℕ → Reply) (l : EntryRows) (loads : Loads (qubitCount file) (entryAction file (entry file i)) l) where
+  abbrev m : ℕ
+  m = qubitCount file
 
-module _ (n i : ℕ) (name : List ℕ) (call : List ℕ → Reply) (action : Reply) (l : Loaded) (loads : Loads n action l) where
+  abbrev action : Reply
+  action = entryAction file (entry file i)
+
   abbrev whole : ℕ → List ℕ
-  whole k = line n i name (unlessRefusedAction action call k)
+  whole k = line m i name (unlessRefusedAction action (call m) k)
 
-  pub line-refused : (out : List ℕ) → ((rows : List ℕ) → (length rows ≡ n + n → ⊥) → call rows ≡ refused 2 0 out) → (l .number ≡ 0 → ⊥)
-      → line n i name (refused (l .number) 0 []) ≡ line n i name (unlessRefusedAction action call (action .number))
+  held : (found : EntryAction) → l .found ≡ found → Holds m action found (l .rows)
   unfolding Loads
-  line-refused out miscounted h =
-      ⊎-elim (λ a. absurd (h (a .0)))
-      (⊎-elim (λ a. number (l .number) h ∙ ap whole (sym (a .1)))
-      (λ a. ap (λ (k : ℕ). line n i name (refused k 0 [])) (a .0) ∙ refused-alike n i name 2 out ∙ ap (line n i name) (sym (miscounted (action .words) (a .2)))
-      ∙ ap whole (sym (a .1))))
-      loads
-    where
-      number : (k : ℕ) → (k ≡ 0 → ⊥) → line n i name (refused k 0 []) ≡ whole k
-      number zero z = absurd (z refl)
-      number (suc k) z = refl
+  held found e = rw e at loads
 
-  pub line-passed : l .number ≡ 0 → line n i name (call (take (n + n) (l .rows))) ≡ line n i name (unlessRefusedAction action call (action .number))
-  unfolding Loads
-  line-passed z =
-      ⊎-elim (λ a. ap (λ (rows : List ℕ). line n i name (call rows)) (sym (a .2)) ∙ ap whole (sym (a .1)))
-      (⊎-elim (λ a. absurd (omega (arith, a .0))) (λ a. absurd (omega (arith, a .0))))
-      loads
+  module _ (n : ℕ) (q : n ≡ qubitCount file) where
+    pub line-passed : l .found ≡ Rows → line n i name (call n (take (n + n) (l .rows))) ≡ entryLine file i name call
+    line-passed e =
+        let a = held Rows e in
+        ap (λ (k : ℕ). line k i name (call k (take (k + k) (l .rows)))) q ∙ ap (λ (rows : List ℕ). line m i name (call m rows)) (sym (a .1)) ∙ ap whole (sym (a .0))
 
--- ---- by what a call tells and leaves
+    -- where the call refuses another count of rows with 2
+    pub line-refused : ((rows : List ℕ) → (length rows ≡ qubitCount file + qubitCount file → ⊥) → call (qubitCount file) rows ≡ refused 2 0 (listWords (qubitCount file)))
+        → (number : ℕ) → l .found ≡ Refused number → line n i name (refused number 0 []) ≡ entryLine file i name call
+    line-refused miscounted number e =
+        ap (λ (k : ℕ). line k i name (refused number 0 [])) q
+        ∙ ⊎-elim (λ a. own number (a .0) ∙ ap whole (sym (a .1)))
+        (λ a. ap (λ (k : ℕ). line m i name (refused k 0 [])) (a .0) ∙ refused-alike m i name 2 0 [] (listWords m) ∙ ap (line m i name) (sym (miscounted (action .words) (a .1 .1)))
+        ∙ ap whole (sym (a .1 .0)))
+        (held (Refused number) e)
+      where
+        own : (k : ℕ) → (k ≡ 0 → ⊥) → line m i name (refused k 0 []) ≡ whole k
+        own zero z = absurd (z refl)
+        own (suc k) z = refl
 
-module _ (n i : ℕ) (which : Name) (t : Figures) (words : List ℕ) (few : n ≤ 32) (entry : i < 2 ^ 64) (reply : Reply) where
-  -- the vectors' width m only bounds the load
-  pub line-figures : (t .number < 2 ^ 64) × (t .count < 2 ^ 64) × (t .looks < 2 ^ 64) → (m : ℕ) → m ≤ 2 ^ 32 → length words ≤ 130
-      → All (λ v. v < 2 ^ m) (take (reply .count) (rowsOfWords (reply .words)))
-      → t ≡ reply .figures → words ≡ reply .words
-      → take lineRoom (line n i (nameBytes which) (replyOf t words)) ≡ line n i (nameBytes which) reply
-  unfolding rowsOfWords
-  line-figures bounds m wide short below e d =
-      ap (λ (r : Reply). take lineRoom (line n i (nameBytes which) r)) same
-      ∙ line-whole n i (nameBytes which) reply few entry (name-length which) (omega (arith, bounds .0, number)) (omega (arith, bounds .1, count)) (omega (arith, bounds .2, looks)) m wide
-      (omega (arith, length-take (reply .count) (reply .words), ap length d)) below
-    where
-      number : t .number ≡ reply .number
-      number = ap (λ (x : Figures). x .number) e
+-- ---- by what a call tells and leaves where it is lent the first 4n + 2 of blank words
 
-      count : t .count ≡ reply .count
-      count = ap (λ (x : Figures). x .count) e
-
-      looks : t .looks ≡ reply .looks
-      looks = ap (λ (x : Figures). x .looks) e
-
-      same : replyOf t words ≡ reply
-      same = simp (number, count, looks, d)
+module _ (n i : ℕ) (which : Name) (call : List ℕ → Reply) (few : n ≤ maxQubits) (entry : i < 2 ^ 64) (kept : (out : List ℕ) → length (call out .words) ≡ length out)
+    (narrow : (out : List ℕ) → All (λ v. v < 2 ^ (n + n)) (take (call out .figures .count) (rowsOfWords n (call out .words)))) where
+  pub line-left : (t : Figures) (left : List ℕ) → (t .number < 2 ^ 64) × (t .count < 2 ^ 64) × (t .looks < 2 ^ 64)
+      → t ≡ call (take (4 * n + 2) (replicate mostVectors 0)) .figures → left ≡ call (take (4 * n + 2) (replicate mostVectors 0)) .words
+      → take lineRoom (line n i (nameBytes which) (record { figures = t; words = take (4 * n + 2) (left ++ drop (4 * n + 2) (replicate mostVectors 0)) }))
+      ≡ line n i (nameBytes which) (call (listWords n))
+  line-left t left bounds told is =
+      let k = 4 * n + 2 in
+      let fits : k ≤ mostVectors = omega arith in
+      line-figures n i which t (take k (left ++ drop k (replicate mostVectors 0))) few entry (call (listWords n)) bounds
+      (omega (arith, left-count k mostVectors fits call kept left is)) (narrow (listWords n)) (lent-told k mostVectors fits call t told)
+      (left-words k mostVectors fits call kept left is)

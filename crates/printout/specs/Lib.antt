@@ -1,3 +1,3 @@
 pub mod Printout
-pub mod Entries
-pub mod Loads
+pub mod Pages
+pub mod inner

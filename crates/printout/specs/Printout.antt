@@ -1,6 +1,6 @@
 -- The whole printout of a job file: two lines an entry, in order.
 -- Assumes nothing.
-use mathlib.Core.List.{List, [], _∷_, _++_}
+use mathlib.Core.List.{List, [], _∷_, flatten}
 use Prim.Native.Nat.{ℕ, zero, suc, _+_, _*_}
 use lib.ListN.{take, drop, replicate}
 use Rattle.symplectic.specs.Replies.{Reply, refused}
@@ -10,13 +10,17 @@ use Rattle.transvection_exact.specs.Minimal.{minimalReply}
 use Rattle.job.specs.Files.{littleEndian, part, qubitCount, entryCount, Entry, entry, partSize, fileQuestions}
 use Rattle.lines.specs.Lines.{minName, greedyName, line, fileLine}
 
--- the program's budget
+-- the program's budget. A plain number, open to users
 abbrev pub jobBudget : ℕ
 jobBudget = 1000000
 
--- the lent output words of the program's own calls
+-- the words that the program lends to its own calls
 abbrev pub blankWords : ℕ → List ℕ
 blankWords k = replicate k 0
+
+-- 4n + 2 of them for a list of n qubits, minimal or greedy: enough for either
+abbrev pub listWords : ℕ → List ℕ
+listWords n = blankWords (4 * n + 2)
 
 -- k words of 8 bytes
 unfoldable pub wordsOfBytes : ℕ → List ℕ → List ℕ
@@ -25,7 +29,7 @@ wordsOfBytes (suc k) bytes = littleEndian (take 8 bytes) ∷ wordsOfBytes k (dro
 
 -- the answer that holds an entry's action: given, or made from its gates
 abbrev pub actionBy : ℕ → ℕ → ℕ → List ℕ → Reply
-actionBy zero n count bytes = record { number = 0; count = count; looks = 0; words = wordsOfBytes count bytes }
+actionBy zero n count bytes = record { figures = record { number = 0; count = count; looks = 0 }; words = wordsOfBytes count bytes }
 actionBy (suc kind) n count bytes = gatesReply n bytes (blankWords (n + n))
 
 unfoldable pub entryAction : List ℕ → Entry → Reply
@@ -36,25 +40,31 @@ abbrev pub unlessRefusedAction : Reply → (List ℕ → Reply) → ℕ → Repl
 unlessRefusedAction action call zero = call (action .words)
 unlessRefusedAction action call (suc number) = refused (suc number) 0 []
 
-unfoldable pub minLine : List ℕ → ℕ → List ℕ
-minLine file i =
+-- the line of a call on the action of entry i
+abbrev pub entryLine : List ℕ → ℕ → List ℕ → (ℕ → List ℕ → Reply) → List ℕ
+entryLine file i name call =
     let n = qubitCount file in
     let action = entryAction file (entry file i) in
-    line n i minName (unlessRefusedAction action (λ rows. minimalReply n rows jobBudget (blankWords (n + n + 1))) (action .number))
+    line n i name (unlessRefusedAction action (call n) (action .figures .number))
+
+unfoldable pub minLine : List ℕ → ℕ → List ℕ
+minLine file i = entryLine file i minName (λ n rows. minimalReply n rows jobBudget (listWords n))
 
 unfoldable pub greedyLine : List ℕ → ℕ → List ℕ
-greedyLine file i =
-    let n = qubitCount file in
-    let action = entryAction file (entry file i) in
-    line n i greedyName (unlessRefusedAction action (λ rows. greedyReply n rows (blankWords (4 * n + 2))) (action .number))
+greedyLine file i = entryLine file i greedyName (λ n rows. greedyReply n rows (listWords n))
 
--- the lines of k entries from entry i on
-unfoldable pub entryLines : List ℕ → ℕ → ℕ → List ℕ
+-- the lines of k entries from entry i on: the minimal list of each entry, then its greedy list
+unfoldable pub entryLines : List ℕ → ℕ → ℕ → List (List ℕ)
 entryLines file zero i = []
-entryLines file (suc k) i = minLine file i ++ greedyLine file i ++ entryLines file k (suc i)
+entryLines file (suc k) i = minLine file i ∷ greedyLine file i ∷ entryLines file k (suc i)
 
+-- the lines of a file that passes its questions
+unfoldable pub fileLines : List ℕ → List (List ℕ)
+fileLines file = entryLines file (entryCount file) 0
+
+-- a refused file prints only `file` and the number
 abbrev pub printed : ℕ → List ℕ → List ℕ
-printed zero file = entryLines file (entryCount file) 0
+printed zero file = flatten (fileLines file)
 printed (suc number) file = fileLine (suc number)
 
 -- all entries pass before anything is printed

@@ -1,189 +1,247 @@
-// The lines of a job file's entries, by their number: the greedy list and the minimal list of each entry's action.
+// The printout of a job file, page by page: the minimal list and the greedy list of each entry's action.
 // Not in the source.
+mod greedy;
+mod minimal;
+
+use job::FileAnswer;
 use lines::Line;
 use lines::Name;
+use symplectic::Figures;
+use symplectic::MOST_ROWS;
 ghost use mathlib.Core.Path.{_≡_};
-ghost use mathlib.Core.Bool.{true};
 ghost use mathlib.Core.List.{[]};
 ghost use Prim.Native.Nat.{_+_, _*_, _<_, _≤_};
-ghost use lib.ListN.{take};
+ghost use lib.ListN.{getD, take};
+ghost use Rattle.symplectic.specs.Actions.{maxQubits, mostRows};
 ghost use Rattle.symplectic.specs.Replies.{refused};
 ghost use Rattle.gates.specs.Sequences.{gatesReply};
 ghost use Rattle.transvection.specs.Greedy.{greedyReply};
 ghost use Rattle.transvection_exact.specs.Minimal.{minimalReply};
-ghost use Rattle.job.specs.Files.{part as partOf, qubitCount, entry};
+ghost use Rattle.job.specs.Files.{part, qubitCount, entryCount, entry, fileQuestions};
 ghost use Rattle.lines.specs.Lines.{line, minName, greedyName};
 ghost use Rattle.lines.specs.Bytes.{bytesOf, nameBytes};
-ghost use Rattle.printout.specs.Printout.{jobBudget, blankWords, wordsOfBytes, entryAction};
-ghost use Rattle.printout.specs.Entries.{readable as readableAt, minLineAt, greedyLineAt};
-ghost use Rattle.printout.specs.Loads.{Loads};
+ghost use Rattle.printout.specs.Printout.{jobBudget, blankWords, listWords, wordsOfBytes, entryAction, minLine, greedyLine, fileLines};
+ghost use Rattle.printout.specs.Pages.{pageReply, answerOf};
+ghost use Rattle.printout.specs.inner.Loads.{Loads};
 
-// The rows of an entry's action, or the number of a refusal.
-struct Loaded {
-    rows: [u64; 64],
-    number: u64,
+// How many words a list has room for: 4n + 2 at the most qubits.
+const LIST_ROOM: usize = 130;
+
+// What a call for lines answers: how many lines it wrote and how many bytes they take, that there is no such line, or the file's first
+// question that is answered no.
+pub enum Page {
+    Lines { count: u64, bytes: u64 },
+    NoSuchLine,
+    BadLength,
+    TooManyQubits,
+    BadEntry,
 }
 
-// Whether there is an entry i that passes.
-fn readable(file: &[u8], i: u64) -> bool
-    ensures { λ r. ⌜ r ≡ readableAt (now (file .entry)) i ⌝ }
-{
-    let length = file.len() as u64;
-    if 32 < job::qubit_count(file) {
-        return false;
-    }
-    if job::entry_count(file) <= i {
-        return false;
-    }
-    let e = job::entry_at(file, i);
-    let end = e.offset + job::part_size(e);
-    if 1 < e.kind {
-        return false;
-    }
-    if e.zero_byte != 0 {
-        return false;
-    }
-    end <= length
+// Whether the rows of an entry's action were found, or the number of the refusal that stands on both of its lines.
+enum EntryAction {
+    Rows,
+    Refused { number: u64 },
 }
+
+struct EntryRows {
+    found: EntryAction,
+    rows: [u64; MOST_ROWS],
+}
+
+// ---- the action of an entry
 
 // The m words of the part that begins at `offset`.
-fn given(file: &[u8], offset: u64, m: u64) -> Loaded
-    requires { ⌜ m ≤ 64 ⌝ }
-    ensures { λ r. ⌜ (r .number ≡ 0) × (take m (r .rows) ≡ wordsOfBytes m (partOf (now (file .entry)) offset (8 * m))) ⌝ }
+fn action_rows(file: &[u8], offset: u64, m: u64) -> [u64; MOST_ROWS]
+    requires { ⌜ m ≤ mostRows ⌝ }
+    ensures { λ r. ⌜ take m r ≡ wordsOfBytes m (part (now (file .entry)) offset (8 * m)) ⌝ }
 {
-    let mut l = Loaded {
-        rows: [0; 64],
-        number: 0,
-    };
+    let mut rows: [u64; MOST_ROWS] = [0; MOST_ROWS];
     for k in 0..m {
-        l.rows[k as usize] = job::word_at(file, offset, k);
+        rows[k as usize] = job::word_at(file, offset, k);
     }
-    l
+    rows
 }
 
 // The action of a gate sequence.
-fn made(n: u64, bytes: &[u8]) -> Loaded
-    requires { ⌜ n ≤ 32 ⌝ }
-    ensures { λ r. ⌜ (gatesReply n (now (bytes .entry)) (blankWords (n + n)) .number ≡ r .number) × (gatesReply n (now (bytes .entry)) (blankWords (n + n)) .words ≡ take (n + n) (r .rows)) ⌝ }
+fn gate_rows(n: u64, bytes: &[u8]) -> EntryRows
+    requires { ⌜ n ≤ maxQubits ⌝ }
+    ensures { λ r. ⌜ Loads n (gatesReply n (now (bytes .entry)) (blankWords (n + n))) r ⌝ }
 {
-    let mut rows: [u64; 64] = [0; 64];
+    let mut rows: [u64; MOST_ROWS] = [0; MOST_ROWS];
     let m = (n + n) as usize;
-    let a = gates::gate_action(n, bytes, &mut rows[..m]);
-    let figures = gates::figures_of(a);
-    Loaded {
+    let answer = gates::gate_action(n, bytes, &mut rows[..m]);
+    let figures = gates::figures_of(answer);
+    if figures.number == 0 {
+        return EntryRows {
+            found: EntryAction::Rows,
+            rows: rows,
+        };
+    }
+    EntryRows {
+        found: EntryAction::Refused {
+            number: figures.number,
+        },
         rows: rows,
-        number: figures.number,
     }
 }
 
-// What is loaded of entry i.
-fn load(file: &[u8], i: u64) -> Loaded
-    requires { ⌜ readableAt (now file) i ≡ true ⌝ }
+// The action of entry i. Another count of rows than 2n both calls refuse with 2.
+fn entry_rows(file: &[u8], i: u64) -> EntryRows
+    requires { ⌜ (fileQuestions (now file) ≡ 0) × (i < entryCount (now file)) ⌝ }
     ensures { λ r. ⌜ Loads (qubitCount (now (file .entry))) (entryAction (now (file .entry)) (entry (now (file .entry)) i)) r ⌝ }
 {
     let n = job::qubit_count(file);
     let e = job::entry_at(file, i);
-    let size = job::part_size(e);
+    let offset = e.offset as u64;
+    let count = e.count as u64;
     if e.kind == 0 {
-        if e.count != n + n {
-            return Loaded {
-                rows: [0; 64],
-                number: 2,
+        if count != n + n {
+            return EntryRows {
+                found: EntryAction::Refused { number: 2 },
+                rows: [0; MOST_ROWS],
             };
         }
-        return given(file, e.offset, e.count);
+        let rows = action_rows(file, offset, count);
+        return EntryRows {
+            found: EntryAction::Rows,
+            rows: rows,
+        };
     }
-    let from = e.offset as usize;
-    let to = (e.offset + size) as usize;
-    made(n, &file[from..to])
+    let from = offset as usize;
+    let to = (offset + job::part_size(e)) as usize;
+    gate_rows(n, &file[from..to])
 }
+
+// ---- the lines of an entry
 
 // The line of a refusal before either call.
 fn refusal_line(n: u64, i: u64, which: Name, number: u64) -> Line
-    requires { ⌜ n ≤ 32 ⌝ }
+    requires { ⌜ n ≤ maxQubits ⌝ }
     ensures { λ r. ⌜ bytesOf r ≡ line n i (nameBytes which) (refused number 0 []) ⌝ }
 {
     let none: [u64; 1] = [0; 1];
-    lines::entry_line(
-        n,
-        i,
-        which,
-        Figures {
-            number: number,
-            count: 0,
-            looks: 0,
-        },
-        &none[..0],
-    )
+    let figures = Figures {
+        number: number,
+        count: 0,
+        looks: 0,
+    };
+    lines::entry_line(n, i, which, figures, &none[..0])
 }
-
-// ---- greedy
-
-// The line of the greedy list of an action.
-fn greedy_answer(n: u64, i: u64, l: Loaded) -> Line
-    requires { ⌜ n ≤ 32 ⌝ }
-    ensures { λ r. ⌜ bytesOf r ≡ line n i greedyName (greedyReply n (take (n + n) (l .rows)) (blankWords (4 * n + 2))) ⌝ }
-{
-    let rows = l.rows;
-    let mut out: [u64; 130] = [0; 130];
-    let m = (n + n) as usize;
-    let k = (4 * n + 2) as usize;
-    let a = transvection::clifford_to_transvections(n, &rows[..m], &mut out[..k]);
-    lines::entry_line(n, i, Name::Greedy, transvection::figures_of(a), &out[..k])
-}
-
-// The line of entry i's greedy list. Where there is no entry i that passes, the empty line.
-pub fn greedy_line(file: &[u8], i: u64) -> Line
-    ensures { λ r. ⌜ bytesOf r ≡ greedyLineAt (now (file .entry)) i ⌝ }
-{
-    if !readable(file, i) {
-        return lines::empty();
-    }
-    let n = job::qubit_count(file);
-    let l = load(file, i);
-    if l.number != 0 {
-        return refusal_line(n, i, Name::Greedy, l.number);
-    }
-    greedy_answer(n, i, l)
-}
-
-// ---- minimal
 
 // The line of the minimal list of an action.
-fn min_answer(n: u64, i: u64, l: Loaded) -> Line
-    requires { ⌜ n ≤ 32 ⌝ }
-    ensures { λ r. ⌜ bytesOf r ≡ line n i minName (minimalReply n (take (n + n) (l .rows)) jobBudget (blankWords (n + n + 1))) ⌝ }
+fn min_answer(n: u64, i: u64, rows: [u64; MOST_ROWS]) -> Line
+    requires { ⌜ n ≤ maxQubits ⌝ }
+    ensures { λ r. ⌜ bytesOf r ≡ line n i minName (minimalReply n (take (n + n) rows) jobBudget (listWords n)) ⌝ }
 {
-    let rows = l.rows;
-    let mut out: [u64; 65] = [0; 65];
+    let mut out: [u64; LIST_ROOM] = [0; LIST_ROOM];
     let m = (n + n) as usize;
-    let k = (n + n + 1) as usize;
-    let a = transvection_exact::clifford_to_transvections_minimal(
-        n,
-        &rows[..m],
-        1000000,
-        &mut out[..k],
-    );
-    lines::entry_line(
-        n,
-        i,
-        Name::Min,
-        transvection_exact::figures_of(a),
-        &out[..k],
-    )
+    let k = (4 * n + 2) as usize;
+    let figures = minimal::list(n, &rows[..m], &mut out[..k]);
+    lines::entry_line(n, i, Name::Min, figures, &out[..k])
 }
 
-// The line of entry i's minimal list. Where there is no entry i that passes, the empty line.
-pub fn min_line(file: &[u8], i: u64) -> Line
-    ensures { λ r. ⌜ bytesOf r ≡ minLineAt (now (file .entry)) i ⌝ }
+// The line of the greedy list of an action.
+fn greedy_answer(n: u64, i: u64, rows: [u64; MOST_ROWS]) -> Line
+    requires { ⌜ n ≤ maxQubits ⌝ }
+    ensures { λ r. ⌜ bytesOf r ≡ line n i greedyName (greedyReply n (take (n + n) rows) (listWords n)) ⌝ }
 {
-    if !readable(file, i) {
-        return lines::empty();
-    }
+    let mut out: [u64; LIST_ROOM] = [0; LIST_ROOM];
+    let m = (n + n) as usize;
+    let k = (4 * n + 2) as usize;
+    let figures = greedy::list(n, &rows[..m], &mut out[..k]);
+    lines::entry_line(n, i, Name::Greedy, figures, &out[..k])
+}
+
+// The line of entry i's minimal list.
+fn min_line(file: &[u8], i: u64) -> Line
+    requires { ⌜ (fileQuestions (now file) ≡ 0) × (i < entryCount (now file)) ⌝ }
+    ensures { λ r. ⌜ bytesOf r ≡ minLine (now (file .entry)) i ⌝ }
+{
     let n = job::qubit_count(file);
-    let l = load(file, i);
-    if l.number != 0 {
-        return refusal_line(n, i, Name::Min, l.number);
+    let action = entry_rows(file, i);
+    let found = action.found;
+    let rows = action.rows;
+    match found {
+        EntryAction::Rows => min_answer(n, i, rows),
+        EntryAction::Refused { number } => refusal_line(n, i, Name::Min, number),
     }
-    min_answer(n, i, l)
+}
+
+// The line of entry i's greedy list.
+fn greedy_line(file: &[u8], i: u64) -> Line
+    requires { ⌜ (fileQuestions (now file) ≡ 0) × (i < entryCount (now file)) ⌝ }
+    ensures { λ r. ⌜ bytesOf r ≡ greedyLine (now (file .entry)) i ⌝ }
+{
+    let n = job::qubit_count(file);
+    let action = entry_rows(file, i);
+    let found = action.found;
+    let rows = action.rows;
+    match found {
+        EntryAction::Rows => greedy_answer(n, i, rows),
+        EntryAction::Refused { number } => refusal_line(n, i, Name::Greedy, number),
+    }
+}
+
+// ---- pages
+
+// Line k of the printout.
+fn line_at(file: &[u8], k: u64) -> Line
+    requires { ⌜ (fileQuestions (now file) ≡ 0) × (k < 2 * entryCount (now file)) ⌝ }
+    ensures { λ r. ⌜ bytesOf r ≡ getD (fileLines (now (file .entry))) k [] ⌝ }
+{
+    let i = k / 2;
+    if k % 2 == 0 {
+        min_line(file, i)
+    } else {
+        greedy_line(file, i)
+    }
+}
+
+// The lines from `from` on, as many as `out` has room for, of a file that passes its questions.
+fn fill_page(file: &[u8], from: u64, last: u64, out: &mut [u8]) -> Page
+    requires { ⌜ (fileQuestions (now file) ≡ 0) × (last ≡ 2 * entryCount (now file)) × (from < last) ⌝ }
+    ensures answered { λ r. ⌜ answerOf r ≡ pageReply (now (file .entry)) from (now (out .entry)) .answer ⌝ }
+    ensures left { λ r. ⌜ now (out .exit) ≡ pageReply (now (file .entry)) from (now (out .entry)) .bytes ⌝ }
+{
+    let mut used: usize = 0;
+    let mut k = from;
+    while k < last {
+        let l = line_at(file, k);
+        let size = lines::length_of(l);
+        if out.len() - used < size {
+            break;
+        }
+        lines::lay(l, &mut out[used..]);
+        used += size;
+        k += 1;
+    }
+    Page::Lines {
+        count: k - from,
+        bytes: used as u64,
+    }
+}
+
+// The lines of the printout from line `from` on, as many whole ones as `out` has room for. Line 2i is the minimal list of entry i, line
+// 2i + 1 its greedy list.
+pub fn print_page(file: &[u8], from: u64, out: &mut [u8]) -> Page
+    ensures answered { λ r. ⌜ answerOf r ≡ pageReply (now (file .entry)) from (now (out .entry)) .answer ⌝ }
+    ensures left { λ r. ⌜ now (out .exit) ≡ pageReply (now (file .entry)) from (now (out .entry)) .bytes ⌝ }
+{
+    match job::file_questions(file) {
+        FileAnswer::Passed => {}
+        FileAnswer::BadLength => {
+            return Page::BadLength;
+        }
+        FileAnswer::TooManyQubits => {
+            return Page::TooManyQubits;
+        }
+        FileAnswer::BadEntry => {
+            return Page::BadEntry;
+        }
+    }
+    let last = 2 * job::entry_count(file);
+    if last <= from {
+        return Page::NoSuchLine;
+    }
+    fill_page(file, from, last, out)
 }

@@ -1,15 +1,18 @@
 -- What the greedy call replies: each refusal in its turn, and the whole list where every question is passed.
 -- Assumes nothing.
-use mathlib.Core.Path.{_≡_, ap}
+use mathlib.Core.Path.{_≡_, refl, sym, ap, _∙_, subst}
 use mathlib.Core.List.{List}
-use Prim.Native.Nat.{ℕ, suc, _*_, _+_, _≤_}
+use Prim.Native.Nat.{ℕ, suc, _*_, _+_, _^_, _≤_, _<_}
 use native.Mathlib.Omega.{arith}
-use lib.ListN.{length}
+use lib.ListN.{length, take}
+use Rattle.blocks.specs.Matrices.{All}
 use Rattle.blocks.specs.Words.{rowsOfWords, laid}
+use Rattle.blocks.proofs.Values.{rows-count, laid-length, laid-front}
+use Rattle.symplectic.specs.Actions.{maxQubits}
 use Rattle.symplectic.specs.declared.Figures.{Figures}
 use Rattle.symplectic.specs.Replies.{Reply, refused, listed, actionQuestions, listQuestions, Replays}
-use Rattle.symplectic.proofs.Questions.{passed-size, passed-count, passed-rows, passed-symplectic, list-known}
-use Rattle.symplectic.proofs.Answered.{Meets, Holds, holds-unless, meets-refused, meets-answer, refused-replays, listed-replays}
+use Rattle.symplectic.proofs.Questions.{question-2, passed-size, passed-count, passed-rows, passed-symplectic, list-refused, list-known, reply-refused}
+use Rattle.symplectic.proofs.Answered.{Meets, Holds, holds-unless, meets-refused, meets-answer, rows-wide, refused-replays, listed-replays}
 use Rattle.transvection.specs.declared.Listing.the-variants.{Listed}
 use Rattle.transvection.specs.Greedy.{greedyList, greedyReply}
 use Rattle.transvection.specs.Answers.{figuresOf}
@@ -59,3 +62,31 @@ module _ (n : ℕ) (rows out : List ℕ) where
       → Meets Promised (greedyReply n rows out) left (figuresOf (Listed count))
   unfolding greedyReply
   greedy-listed count left e c l = meets-answer Promised asked out answer greedy-replays (figuresOf (Listed count)) e left (ap (λ (k : ℕ). figuresOf (Listed k)) c) l
+
+  -- the lent words are as many as before
+  pub greedy-kept : length (greedyReply n rows out .words) ≡ length out
+  unfolding greedyReply
+  greedy-kept = holds-unless (λ left t. length left ≡ length out) asked out answer (λ k. refl) (λ e. laid-length n (greedyList n (rowsOfWords n rows)) out)
+
+  -- the listed vectors have 2n columns
+  pub greedy-fits : All (λ v. v < 2 ^ (n + n)) (take (greedyReply n rows out .figures .count) (rowsOfWords n (greedyReply n rows out .words)))
+  unfolding greedyReply
+  greedy-fits = holds-unless (λ left t. All (λ v. v < 2 ^ (n + n)) (take (t .count) (rowsOfWords n left))) asked out answer (λ k. tt) answer-fits
+    where
+      answer-fits : listQuestions n (rowsOfWords n rows) (4 * n + 2) (length out) ≡ 0
+          → All (λ v. v < 2 ^ (n + n)) (take (length (greedyList n (rowsOfWords n rows))) (rowsOfWords n (laid n (greedyList n (rowsOfWords n rows)) out)))
+      answer-fits e =
+          let known = list-known n (rowsOfWords n rows) (4 * n + 2) (length out) e in
+          let a = passed-action n (rowsOfWords n rows) (known .0) in
+          let wide = rows-wide {n = n} (passed-size n (rowsOfWords n rows) (known .0)) in
+          let vs = greedyList n (rowsOfWords n rows) in
+          subst (All (λ v. v < 2 ^ (n + n)))
+          (sym (laid-front n wide vs out (greedy-lt n (rowsOfWords n rows) a) (omega (arith, known .1, greedy-length n (rowsOfWords n rows) a))))
+          (greedy-lt n (rowsOfWords n rows) a)
+
+  -- another count of rows
+  pub greedy-miscounted : n ≤ maxQubits → (length rows ≡ n + n → ⊥) → greedyReply n rows out ≡ refused 2 0 out
+  unfolding greedyReply
+  greedy-miscounted few h =
+      reply-refused asked 1 out answer
+      (list-refused n (rowsOfWords n rows) (4 * n + 2) (length out) 1 (question-2 n (rowsOfWords n rows) few (λ e. h (sym (rows-count n rows) ∙ e))))

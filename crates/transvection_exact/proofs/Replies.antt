@@ -11,9 +11,11 @@ use lib.ListN.{length, take}
 use borrow.Author.Tests.{leb-true, leb-false}
 use Rattle.blocks.specs.Matrices.{times, All}
 use Rattle.blocks.specs.Words.{rowsOfWords}
+use Rattle.blocks.proofs.Values.{rows-count, laid-length}
+use Rattle.symplectic.specs.Actions.{maxQubits}
 use Rattle.symplectic.specs.Turns.{product}
-use Rattle.symplectic.specs.Replies.{Reply, unlessRefused, actionQuestions, listQuestions}
-use Rattle.symplectic.proofs.Questions.{list-small, passed-size, passed-count, passed-rows, passed-symplectic, list-known}
+use Rattle.symplectic.specs.Replies.{Reply, refused, unlessRefused, actionQuestions, listQuestions}
+use Rattle.symplectic.proofs.Questions.{question-2, list-small, passed-size, passed-count, passed-rows, passed-symplectic, list-refused, list-known, reply-refused}
 use Rattle.reduction.specs.Residue.{basis}
 use Rattle.triangular.specs.Search.{Outcome, found, failed, looksOf, endedIf, budgeted}
 use Rattle.triangular.proofs.Budgets.{budgeted-is}
@@ -111,3 +113,26 @@ module _ (n : ℕ) (words : List ℕ) (budget : ℕ) (out : List ℕ) where
 
   pub spent-looks : reply .figures .number ≡ 6 → reply .figures .looks ≡ budget
   spent-looks z = spent-of n rows asked budget wanted out reply minimal-ends z .2
+
+  -- the lent words are as many as before
+  pub minimal-kept : length (reply .words) ≡ length out
+  minimal-kept = go (reply .figures .number) refl
+    where
+      go : (k : ℕ) → reply .figures .number ≡ k → length (reply .words) ≡ length out
+      go zero z = ap (λ (r : Reply). length (r .words)) (the z .is) ∙ laid-length n (the z .list) out
+      go (suc k) z = ap length (refused-left (λ e. omega arith) .0)
+
+  -- the listed vectors have 2n columns
+  pub minimal-fits : All (λ v. v < 2 ^ (n + n)) (take (reply .figures .count) (rowsOfWords n (reply .words)))
+  minimal-fits = go (reply .figures .number) refl
+    where
+      go : (k : ℕ) → reply .figures .number ≡ k → All (λ v. v < 2 ^ (n + n)) (take (reply .figures .count) (rowsOfWords n (reply .words)))
+      go zero z = answered-fits z
+      go (suc k) z =
+          subst (λ (c : ℕ). All (λ v. v < 2 ^ (n + n)) (take c (rowsOfWords n (reply .words)))) (sym (refused-left (λ e. omega arith) .1)) tt
+
+  -- another count of rows
+  pub minimal-miscounted : n ≤ maxQubits → (length words ≡ n + n → ⊥) → minimalReply n words budget out ≡ refused 2 0 out
+  unfolding minimalReply
+  minimal-miscounted few h =
+      reply-refused asked 1 out _ (list-refused n rows (n + n + 1) (length out) 1 (question-2 n rows few (λ e. h (sym (rows-count n words) ∙ e))))

@@ -12,12 +12,12 @@ use Rattle.jobs.proofs.next_file.Tie as tie
 
 -- the room after its first bytes are read, which is as long as before
 abbrev filled : tie.After-read-full2 → List ℕ
-filled c = c .read-full2 .last .1 .0 ++ drop (c .before .before .before .within .result) (c .before .before .room .result)
+filled c = c .read-full2 .last .1 .0 ++ drop (c .before .before .before .within .result) (c .before .before .file-room .result)
 
 inside : (c : tie.After-read-full2) → c .before .before .before .within .result ≤ length (filled c)
 inside c =
-    let long : length (filled c) ≡ length (c .before .before .room .result) = length-front (c .before .before .room .result) (c .read-full2 .last .1 .0) (c .before .before .before .within .result) (c .read-full2 .kept .1 .0) in
-    omega (arith, long, c .before .before .room .ensures, c .before .before .before .within .ensures)
+    let long : length (filled c) ≡ length (c .before .before .file-room .result) = length-front (c .before .before .file-room .result) (c .read-full2 .last .1 .0) (c .before .before .before .within .result) (c .read-full2 .kept .1 .0) in
+    omega (arith, long, c .before .before .file-room .ensures, c .before .before .before .within .ensures)
 
 slice-aggregate-read-full : tie.Need-slice-aggregate-read-full
 slice-aggregate-read-full c = search needs
@@ -37,14 +37,14 @@ word-at-requires c κs = search needs
 within-requires : tie.Need-within-requires
 within-requires c κs = search needs
 
-room-requires : tie.Need-room-requires
-room-requires c κs = search needs
+file-room-requires : tie.Need-file-room-requires
+file-room-requires c κs = search needs
 
 array-borrow-prefix-file : tie.Need-array-borrow-prefix-file
 array-borrow-prefix-file c = search needs
 
 slice-aggregate-read-full-2 : tie.Need-slice-aggregate-read-full-2
-slice-aggregate-read-full-2 c = sym (length-take-le (c .before .before .within .result) (c .before .room .result) (search needs))
+slice-aggregate-read-full-2 c = sym (length-take-le (c .before .before .within .result) (c .before .file-room .result) (search needs))
 
 read-full-requires-2 : tie.Need-read-full-requires-2
 read-full-requires-2 c κs = search needs
@@ -73,7 +73,7 @@ next-file-spec =
     slice-aggregate-word-at
     word-at-requires
     within-requires
-    room-requires
+    file-room-requires
     array-borrow-prefix-file
     slice-aggregate-read-full-2
     read-full-requires-2

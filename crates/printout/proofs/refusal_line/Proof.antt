@@ -5,12 +5,9 @@ use mathlib.Core.List.{[]}
 use native.Mathlib.Omega.{arith}
 use borrow.Author.Needs.{needs}
 use Rattle.symplectic.specs.Replies.{refused}
-use Rattle.printout.proofs.Printing.{line-figures}
+use Rattle.lines.proofs.Fits.{line-figures}
 use Rattle.printout.proofs.refusal_line.Statement.{statement}
 use Rattle.printout.proofs.refusal_line.Tie as tie
-
-telling-requires : tie.Need-telling-requires
-telling-requires c κs = search needs
 
 array-share-prefix-none : tie.Need-array-share-prefix-none
 array-share-prefix-none c = search needs
@@ -23,12 +20,12 @@ entry-line-requires c κs = search needs
 
 returns : tie.Need-returns
 returns c =
-    let s = c .before .before .before .args in
-    let figures = c .before .before .telling in
+    let s = c .before .before .args in
+    let reply = refused (s .number) 0 [] in
     c .entry-line .ensures
-    ∙ line-figures (s .n) (s .i) (s .which) (figures .result) [] (search needs) (search needs) (refused (s .number) 0 []) (search needs) 64 (omega arith) (omega arith) tt (figures .ensures) refl
+    ∙ line-figures (s .n) (s .i) (s .which) (reply .figures) [] (search needs) (search needs) reply (search needs) (omega arith) tt refl refl
 
 pub refusal-line-spec : {M : Type 1} → statement M
 refusal-line-spec =
     tie.close
-    (tie.spec telling-requires array-share-prefix-none slice-aggregate-entry-line entry-line-requires returns)
+    (tie.spec array-share-prefix-none slice-aggregate-entry-line entry-line-requires returns)

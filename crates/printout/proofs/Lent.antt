@@ -1,0 +1,44 @@
+-- What a call tells and leaves where it is lent the first k of more blank words.
+-- Assumes nothing.
+use mathlib.Core.Path.{_≡_, refl, sym, ap, _∙_}
+use mathlib.Core.List.{List, _∷_, _++_}
+use Prim.Native.Nat.{ℕ, zero, suc, _≤_}
+use native.Mathlib.Omega.{arith}
+use lib.ListN.{length, take, drop, replicate, length-append, length-replicate}
+use lib.Seq.{take-at, length-take-le}
+use Rattle.symplectic.specs.declared.Figures.{Figures}
+use Rattle.symplectic.specs.Replies.{Reply}
+use Rattle.printout.specs.Printout.{blankWords}
+
+blank-front : (k room : ℕ) → k ≤ room → take {A = ℕ} k (replicate room 0) ≡ blankWords k
+blank-front zero room h = refl
+blank-front (suc k) zero h = absurd (omega arith)
+blank-front (suc k) (suc room) h = ap (λ (l : List ℕ). 0 ∷ l) (blank-front k room (omega arith))
+
+module _ (k room : ℕ) (fits : k ≤ room) where
+  pub lent-length : k ≡ length (take {A = ℕ} k (replicate room 0))
+  lent-length = sym (length-take-le k (replicate room 0) enough)
+    where
+      enough : k ≤ length {A = ℕ} (replicate room 0)
+      enough = omega (arith, length-replicate {A = ℕ} room 0)
+
+  module _ (call : List ℕ → Reply) where
+    pub lent-told : (t : Figures) → t ≡ call (take k (replicate room 0)) .figures → t ≡ call (blankWords k) .figures
+    lent-told t e = e ∙ ap (λ (out : List ℕ). call out .figures) (blank-front k room fits)
+
+    -- of a call that leaves as many words as it was lent
+    module _ (kept : (out : List ℕ) → length (call out .words) ≡ length out) (left : List ℕ) (is : left ≡ call (take k (replicate room 0)) .words) where
+      left-length : length left ≡ k
+      left-length = ap length is ∙ kept (take k (replicate room 0)) ∙ sym lent-length
+
+      pub left-room : k ≤ length (left ++ drop k (replicate room 0))
+      left-room = omega (arith, length-append left (drop k (replicate room 0)), left-length)
+
+      front : take k (left ++ drop k (replicate room 0)) ≡ left
+      front = take-at left (drop k (replicate room 0)) k left-length
+
+      pub left-count : k ≡ length (take k (left ++ drop k (replicate room 0)))
+      left-count = sym (ap length front ∙ left-length)
+
+      pub left-words : take k (left ++ drop k (replicate room 0)) ≡ call (blankWords k) .words
+      left-words = front ∙ is ∙ ap (λ (out : List ℕ). call out .words) (blank-front k room fits)
