@@ -6,9 +6,8 @@ use Rattle.bench_examples.specs.Table.{Example, answer, table}
 use Rattle.binar.specs.Bits.{odd, bit, _⊕_, weight, dot}
 use Rattle.blocks.specs.Matrices.{times, units, dots}
 use Rattle.blocks.specs.Words.{rowsOfWords, wordOf, wordsOfRows, laid}
-use Rattle.symplectic.specs.Actions.{maxQubits}
 use Rattle.symplectic.specs.Picks.{firstOne, unevenWith, firstUneven, pick}
-use Rattle.symplectic.specs.Replies.{refused, listed, fitAll, sizeQuestion, countQuestion, actionQuestions, listQuestions}
+use Rattle.symplectic.specs.Replies.{fitAll, sizeQuestion, countQuestion, actionQuestions, listQuestions}
 use Rattle.symplectic.specs.Turns.{xBits, zBits, pairing, turn, followed, product, pairAlike, symplectic, identityPlus}
 use Rattle.reduction.specs.Columns.{columns, reduced, rank, rowReduceWithTransform}
 use Rattle.reduction.specs.Residue.{residue, reduction, basis, transform, timesTransposed, core, form}

@@ -4,7 +4,7 @@ use mathlib.Core.Path.{_≡_, refl, sym, ap, ap₂, _∙_}
 use mathlib.Core.Bool.{Bool, true, false, _&&_}
 use mathlib.Core.List.{List, [], _∷_, map}
 use Prim.Native.Nat.{ℕ, zero, suc, _+_, _*_, _/_, _%_, _^_, _≤_, _<_}
-use native.Mathlib.Nat.{pow-suc, mul-assoc, mul-div-cancel, mul-mod-left, zero-lt-suc, le-of-suc-le-suc, not-suc-le-zero, pos-of-ne-zero}
+use native.Mathlib.Nat.{pow-suc, mul-assoc, mul-div-cancel, zero-lt-suc, le-of-suc-le-suc, not-suc-le-zero, pos-of-ne-zero}
 use native.Mathlib.Omega.{arith}
 use lib.Dec.{eqb, ltb}
 use lib.Pow.{pow-pos, pow-mono}

@@ -7,8 +7,6 @@ use native.Mathlib.Nat.{pow-suc, mul-one, one-mul, mul-assoc, zero-add, suc-add,
 use native.Mathlib.Omega.{arith}
 use lib.Pow.{pow-pos}
 use lib.ListN.{length, getD, take, length-map, List·getD-map}
-use Rattle.binar.specs.Bits.{odd, _⊕_}
-use Rattle.binar.proofs.Sums.{zero-sum}
 use Rattle.blocks.specs.Matrices.{times, matmul, units, All}
 use Rattle.blocks.proofs.All.{All·map, All·to-map}
 use Rattle.blocks.proofs.Products.{times-unit, times-double}

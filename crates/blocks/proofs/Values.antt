@@ -3,12 +3,12 @@
 use mathlib.Core.Path.{_≡_, refl, sym, ap, ap₂, _∙_}
 use mathlib.Core.Bool.{Bool, true, false, _&&_}
 use mathlib.Core.List.{List, [], _∷_, _++_, map, append-nil}
-use Prim.Native.Nat.{ℕ, zero, suc, _+_, _%_, _^_, _≤_, _<_, min}
+use Prim.Native.Nat.{ℕ, zero, suc, _+_, _^_, _≤_, _<_, min}
 use native.Mathlib.Nat.{le-of-suc-le-suc, not-suc-le-zero, mod-eq-of-lt, lt-of-lt-of-le}
 use native.Mathlib.Numerals.{add-one}
 use native.Mathlib.Omega.{arith}
 use lib.ListN.{getD, set, length, take, drop, replicate, length-map, length-set, length-append, length-take, length-drop, drop-of-length-le}
-use lib.Seq.{take-all, take-length, take-nil, take-at, take-suc, take-suc-set, set-at, drop-cons, getD-take, append-snoc, length-take-le, getD-set-same, getD-set-other}
+use lib.Seq.{take-all, take-length, take-at, take-suc, take-suc-set, set-at, drop-cons, getD-take, append-snoc, length-take-le, getD-set-same, getD-set-other}
 use lib.Dec.{eqb, ltb}
 use lib.Pow.{pow-mono}
 use borrow.Author.Tests.{lt-ltb, eqb-true, eqb-false}

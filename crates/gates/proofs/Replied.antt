@@ -5,14 +5,14 @@ use mathlib.Core.List.{List}
 use Prim.Native.Nat.{ℕ, suc, _+_, _≤_, _<_}
 use lib.ListN.{length}
 use Rattle.blocks.specs.Words.{rowsOfWords, laid}
-use Rattle.blocks.proofs.Values.{rows-count, laid-length}
+use Rattle.blocks.proofs.Values.{rows-count}
 use Rattle.symplectic.specs.Actions.{maxQubits}
 use Rattle.symplectic.specs.declared.Figures.{Figures}
 use Rattle.symplectic.specs.Turns.{product}
 use Rattle.symplectic.specs.Replies.{Reply, refused, listed, sizeQuestion, countQuestion, Rebuilds}
 use Rattle.symplectic.proofs.Products.{product-length}
 use Rattle.symplectic.proofs.Questions.{size-refused, size-passed, size-known, count-refused, count-passed, count-known}
-use Rattle.symplectic.proofs.Answered.{Meets, Holds, holds-unless, meets-refused, meets-answer, rebuilds}
+use Rattle.symplectic.proofs.Answered.{Meets, Holds, meets-refused, meets-answer, rebuilds}
 use Rattle.gates.specs.declared.GateAction.the-variants.{Rows, TooManyQubits, WrongRowCount}
 use Rattle.gates.specs.Answers.{figuresOf}
 use Rattle.gates.specs.Sequences.{sequenceQuestions, sequenceTurns, gatesReply}
@@ -33,11 +33,6 @@ module _ (n : ℕ) (bytes out : List ℕ) where
   gates-rebuild =
       rebuilds n (sequenceTurns n bytes) asked out
       (λ e. let size = size-known n _ e in let count = count-known n _ (rowsOfWords n out) (size .1) in (size .0, (sequence-lt n bytes (count .1), count .0)))
-
-  -- the lent words are as many as before
-  pub gates-kept : length (gatesReply n bytes out .words) ≡ length out
-  unfolding gatesReply
-  gates-kept = holds-unless (λ left t. length left ≡ length out) asked out answer (λ k. refl) (λ e. laid-length n (product n (sequenceTurns n bytes)) out)
 
   gates-refused : (k : ℕ) (t : Figures) → sizeQuestion n (countQuestion n (rowsOfWords n out) (sequenceQuestions n bytes)) ≡ suc k → t ≡ refused (suc k) 0 out .figures
       → Meets Promised (gatesReply n bytes out) out t

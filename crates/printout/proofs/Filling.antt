@@ -5,15 +5,13 @@ use mathlib.Core.Bool.{Bool}
 use mathlib.Core.List.{List, [], _∷_, _++_, append-assoc, append-nil, flatten}
 use Prim.Native.Nat.{ℕ, suc, _+_, _-_, _≤_, _<_}
 use native.Mathlib.Omega.{arith}
-use native.Mathlib.Nat.{sub-self}
 use native.Mathlib.Numerals.{add-one}
-use lib.Dec.{leb}
 use lib.ListN.{length, getD, take, drop, length-append, length-drop, drop-of-length-le, take-append-drop}
 use lib.Seq.{take-all, drop-cons, drop-drop, take-at, drop-at, length-take-le}
 use borrow.Author.Tests.{le-leb, lt-leb}
 use Rattle.lines.specs.Bytes.{laidBytes}
 use Rattle.lines.proofs.Laid.{laid-bytes}
-use Rattle.printout.specs.Pages.{fittingIf, fitting, PageAnswer, page, PageReply, paged, pageOf}
+use Rattle.printout.specs.Pages.{fittingIf, fitting, PageAnswer, page, paged, pageOf}
 
 -- ---- lines that fit
 

@@ -1,4 +1,4 @@
--- What a call tells and leaves where it is lent the first k of more blank words.
+-- The figures that a call answers and the words that it leaves, where it is lent the first k of more blank words.
 -- Assumes nothing.
 use mathlib.Core.Path.{_≡_, refl, sym, ap, _∙_}
 use mathlib.Core.List.{List, _∷_, _++_}
@@ -22,23 +22,22 @@ module _ (k room : ℕ) (fits : k ≤ room) where
       enough : k ≤ length {A = ℕ} (replicate room 0)
       enough = omega (arith, length-replicate {A = ℕ} room 0)
 
-  module _ (call : List ℕ → Reply) where
-    pub lent-told : (t : Figures) → t ≡ call (take k (replicate room 0)) .figures → t ≡ call (blankWords k) .figures
-    lent-told t e = e ∙ ap (λ (out : List ℕ). call out .figures) (blank-front k room fits)
+  pub lent-figures : (call : List ℕ → Reply) (t : Figures) → t ≡ call (take k (replicate room 0)) .figures → t ≡ call (blankWords k) .figures
+  lent-figures call t e = e ∙ ap (λ (out : List ℕ). call out .figures) (blank-front k room fits)
 
-    -- of a call that leaves as many words as it was lent
-    module _ (kept : (out : List ℕ) → length (call out .words) ≡ length out) (left : List ℕ) (is : left ≡ call (take k (replicate room 0)) .words) where
-      left-length : length left ≡ k
-      left-length = ap length is ∙ kept (take k (replicate room 0)) ∙ sym lent-length
+  -- the words left are as many as were lent
+  module _ (left : List ℕ) (kept : length left ≡ length (take {A = ℕ} k (replicate room 0))) where
+    left-length : length left ≡ k
+    left-length = kept ∙ sym lent-length
 
-      pub left-room : k ≤ length (left ++ drop k (replicate room 0))
-      left-room = omega (arith, length-append left (drop k (replicate room 0)), left-length)
+    pub left-room : k ≤ length (left ++ drop k (replicate room 0))
+    left-room = omega (arith, length-append left (drop k (replicate room 0)), left-length)
 
-      front : take k (left ++ drop k (replicate room 0)) ≡ left
-      front = take-at left (drop k (replicate room 0)) k left-length
+    front : take k (left ++ drop k (replicate room 0)) ≡ left
+    front = take-at left (drop k (replicate room 0)) k left-length
 
-      pub left-count : k ≡ length (take k (left ++ drop k (replicate room 0)))
-      left-count = sym (ap length front ∙ left-length)
+    pub left-count : k ≡ length (take k (left ++ drop k (replicate room 0)))
+    left-count = sym (ap length front ∙ left-length)
 
-      pub left-words : take k (left ++ drop k (replicate room 0)) ≡ call (blankWords k) .words
-      left-words = front ∙ is ∙ ap (λ (out : List ℕ). call out .words) (blank-front k room fits)
+    pub left-words : (call : List ℕ → Reply) → left ≡ call (take k (replicate room 0)) .words → take k (left ++ drop k (replicate room 0)) ≡ call (blankWords k) .words
+    left-words call is = front ∙ is ∙ ap (λ (out : List ℕ). call out .words) (blank-front k room fits)

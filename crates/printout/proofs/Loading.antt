@@ -10,7 +10,6 @@ use Rattle.symplectic.specs.Actions.{maxQubits, mostRows}
 use Rattle.symplectic.specs.declared.Figures.{Figures}
 use Rattle.symplectic.specs.Replies.{Reply}
 use Rattle.gates.specs.Sequences.{gatesReply}
-use Rattle.gates.proofs.Replied.{gates-kept}
 use Rattle.job.specs.Files.{part, qubitCount, Entry, partSize}
 use Rattle.job.proofs.Numbers.{part-rows}
 use Rattle.printout.specs.declared.EntryAction.the-variants.{Rows, Refused}
@@ -18,7 +17,7 @@ use Rattle.printout.specs.declared.EntryRows.{EntryRows}
 use Rattle.printout.specs.Printout.{blankWords, wordsOfBytes, actionBy, entryAction}
 use Rattle.printout.specs.inner.Loads.{Loads}
 use Rattle.printout.proofs.Words.{words-length}
-use Rattle.printout.proofs.Lent.{lent-told, left-words}
+use Rattle.printout.proofs.Lent.{lent-figures, left-words}
 
 module _ (n : ℕ) (action : Reply) (rows : List ℕ) where
   pub loads-rows : action .figures .number ≡ 0 → action .words ≡ take (n + n) rows → Loads n action (record { found = Rows; rows = rows })
@@ -29,9 +28,8 @@ module _ (n : ℕ) (action : Reply) (rows : List ℕ) where
   unfolding Loads
   loads-refused number h e = inl (h, e)
 
--- of a gate sequence, by what the call tells and leaves where it is lent the first 2n of blank words
-module _ (n : ℕ) (few : n ≤ maxQubits) (bytes : List ℕ) (t : Figures) (left : List ℕ) (told : t ≡ gatesReply n bytes (take (n + n) (replicate mostRows 0)) .figures)
-    (is : left ≡ gatesReply n bytes (take (n + n) (replicate mostRows 0)) .words) where
+-- of a gate sequence, by the figures that the call answers and the words that it leaves, where it is lent the first 2n of blank words
+module _ (n : ℕ) (few : n ≤ maxQubits) (bytes : List ℕ) (t : Figures) (told : t ≡ gatesReply n bytes (take (n + n) (replicate mostRows 0)) .figures) (left : List ℕ) where
   fits : n + n ≤ mostRows
   fits = omega arith
 
@@ -39,13 +37,12 @@ module _ (n : ℕ) (few : n ≤ maxQubits) (bytes : List ℕ) (t : Figures) (lef
   rows = left ++ drop (n + n) (replicate mostRows 0)
 
   number-is : gatesReply n bytes (blankWords (n + n)) .figures .number ≡ t .number
-  number-is = sym (ap (λ (f : Figures). f .number) (lent-told (n + n) mostRows fits (gatesReply n bytes) t told))
+  number-is = sym (ap (λ (f : Figures). f .number) (lent-figures (n + n) mostRows fits (gatesReply n bytes) t told))
 
-  pub gates-loaded : t .number ≡ 0
+  pub gates-loaded : length left ≡ length (take {A = ℕ} (n + n) (replicate mostRows 0)) → left ≡ gatesReply n bytes (take (n + n) (replicate mostRows 0)) .words → t .number ≡ 0
       → Loads n (gatesReply n bytes (blankWords (n + n))) (record { found = Rows; rows = left ++ drop (n + n) (replicate mostRows 0) })
-  gates-loaded z =
-      loads-rows n (gatesReply n bytes (blankWords (n + n))) rows (number-is ∙ z)
-      (sym (left-words (n + n) mostRows fits (gatesReply n bytes) (gates-kept n bytes) left is))
+  gates-loaded kept is z =
+      loads-rows n (gatesReply n bytes (blankWords (n + n))) rows (number-is ∙ z) (sym (left-words (n + n) mostRows fits left kept (gatesReply n bytes) is))
 
   pub gates-refused : (t .number ≡ 0 → ⊥)
       → Loads n (gatesReply n bytes (blankWords (n + n))) (record { found = Refused (t .number); rows = left ++ drop (n + n) (replicate mostRows 0) })

@@ -1,4 +1,4 @@
--- What a call for a page replies, by the file's questions, and what is known of a page.
+-- What a call for a page replies, by the file's questions.
 -- Assumes nothing.
 use mathlib.Core.Path.{_≡_, sym, ap, _∙_}
 use mathlib.Core.List.{List}

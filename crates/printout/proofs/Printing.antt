@@ -1,4 +1,4 @@
--- A line by what is held of its entry's action, and by what a call tells and leaves.
+-- A line by what is held of its entry's action, and by what a call answers and leaves.
 -- Assumes nothing.
 use mathlib.Core.Path.{_≡_, refl, sym, ap, _∙_}
 use mathlib.Core.List.{List, [], _++_}
@@ -20,8 +20,8 @@ use Rattle.printout.specs.declared.EntryAction.{EntryAction}
 use Rattle.printout.specs.declared.EntryAction.the-variants.{Rows, Refused}
 use Rattle.printout.specs.declared.EntryRows.{EntryRows}
 use Rattle.printout.specs.Printout.{listWords, entryAction, unlessRefusedAction, entryLine}
-use Rattle.printout.specs.inner.Loads.{Holds, Loads}
-use Rattle.printout.proofs.Lent.{lent-told, left-count, left-words}
+use Rattle.printout.specs.inner.Loads.{LoadsBy, Loads}
+use Rattle.printout.proofs.Lent.{lent-figures, left-count, left-words}
 
 -- ---- by what is held of the action of entry i
 
@@ -35,7 +35,7 @@ module _ (file : List ℕ) (i : ℕ) (name : List ℕ) (call : ℕ → List ℕ 
   abbrev whole : ℕ → List ℕ
   whole k = line m i name (unlessRefusedAction action (call m) k)
 
-  held : (found : EntryAction) → l .found ≡ found → Holds m action found (l .rows)
+  held : (found : EntryAction) → l .found ≡ found → LoadsBy m action found (l .rows)
   unfolding Loads
   held found e = rw e at loads
 
@@ -59,17 +59,16 @@ module _ (file : List ℕ) (i : ℕ) (name : List ℕ) (call : ℕ → List ℕ 
         own zero z = absurd (z refl)
         own (suc k) z = refl
 
--- ---- by what a call tells and leaves where it is lent the first 4n + 2 of blank words
+-- ---- by the figures that a call answers and the words that it leaves, where it is lent the first 4n + 2 of blank words
 
-module _ (n i : ℕ) (which : Name) (call : List ℕ → Reply) (few : n ≤ maxQubits) (entry : i < 2 ^ 64) (kept : (out : List ℕ) → length (call out .words) ≡ length out)
-    (narrow : (out : List ℕ) → All (λ v. v < 2 ^ (n + n)) (take (call out .figures .count) (rowsOfWords n (call out .words)))) where
-  pub line-left : (t : Figures) (left : List ℕ) → (t .number < 2 ^ 64) × (t .count < 2 ^ 64) × (t .looks < 2 ^ 64)
-      → t ≡ call (take (4 * n + 2) (replicate mostVectors 0)) .figures → left ≡ call (take (4 * n + 2) (replicate mostVectors 0)) .words
-      → take lineRoom (line n i (nameBytes which) (record { figures = t; words = take (4 * n + 2) (left ++ drop (4 * n + 2) (replicate mostVectors 0)) }))
-      ≡ line n i (nameBytes which) (call (listWords n))
-  line-left t left bounds told is =
-      let k = 4 * n + 2 in
-      let fits : k ≤ mostVectors = omega arith in
-      line-figures n i which t (take k (left ++ drop k (replicate mostVectors 0))) few entry (call (listWords n)) bounds
-      (omega (arith, left-count k mostVectors fits call kept left is)) (narrow (listWords n)) (lent-told k mostVectors fits call t told)
-      (left-words k mostVectors fits call kept left is)
+pub line-left : (n i : ℕ) (which : Name) (call : List ℕ → Reply) → n ≤ maxQubits → i < 2 ^ 64
+    → ((out : List ℕ) → All (λ v. v < 2 ^ (n + n)) (take (call out .figures .count) (rowsOfWords n (call out .words)))) → (t : Figures) (left : List ℕ)
+    → (t .number < 2 ^ 64) × (t .count < 2 ^ 64) × (t .looks < 2 ^ 64) → length left ≡ length (take {A = ℕ} (4 * n + 2) (replicate mostVectors 0))
+    → t ≡ call (take (4 * n + 2) (replicate mostVectors 0)) .figures → left ≡ call (take (4 * n + 2) (replicate mostVectors 0)) .words
+    → take lineRoom (line n i (nameBytes which) (record { figures = t; words = take (4 * n + 2) (left ++ drop (4 * n + 2) (replicate mostVectors 0)) }))
+    ≡ line n i (nameBytes which) (call (listWords n))
+line-left n i which call few entry narrow t left bounds kept told is =
+    let k = 4 * n + 2 in
+    let fits : k ≤ mostVectors = omega arith in
+    line-figures n i which t (take k (left ++ drop k (replicate mostVectors 0))) few entry (call (listWords n)) bounds (omega (arith, left-count k mostVectors fits left kept)) (narrow (listWords n))
+    (lent-figures k mostVectors fits call t told) (left-words k mostVectors fits left kept call is)

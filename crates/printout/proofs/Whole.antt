@@ -60,20 +60,6 @@ fitting-within room (l ∷ ls) = go (leb (length l) room) refl (fitting (room - 
 
 -- ---- a page
 
--- the lent bytes are as many as before
-pub page-kept : (file : List ℕ) (from : ℕ) (out : List ℕ) → length (pageReply file from out .bytes) ≡ length out
-page-kept file from out = go (fileQuestions file) refl
-  where
-    laid : (ls : List (List ℕ)) → length (pageOf ls out .bytes) ≡ length out
-    laid [] = refl
-    laid (l ∷ ls) =
-        let text = flatten (fitting (length out) (l ∷ ls)) in
-        omega (arith, fitting-within (length out) (l ∷ ls) .0, length-append text (drop (length text) out), length-drop (length text) out)
-
-    go : (q : ℕ) → fileQuestions file ≡ q → length (pageReply file from out .bytes) ≡ length out
-    go zero e = ap (λ (r : PageReply). length (r .bytes)) (page-passed file from out e) ∙ laid (drop from (fileLines file))
-    go (suc k) e = ap (λ (r : PageReply). length (r .bytes)) (page-refused file from out k e)
-
 lines-of : (ls : List (List ℕ)) (out : List ℕ) (count bytes : ℕ) → pageOf ls out .answer ≡ page count bytes
     → (0 < length ls) × (pageOf ls out ≡ paged (fitting (length out) ls) out)
 lines-of [] out count bytes e = let z : _≡_ {A = ℕ} 0 1 = cc in absurd (omega arith)
@@ -124,9 +110,7 @@ module _ (file : List ℕ) (from : ℕ) (out : List ℕ) (count bytes : ℕ) (an
       (ap flatten (sym (drop-drop count from (fileLines file)) ∙ ap (λ (k : ℕ). drop k left) (sym counted)))
       ∙ pages-join (length out) left
 
--- of the code's answer and the bytes that it leaves
-pub page-left : (file : List ℕ) (from : ℕ) (out left : List ℕ) (answer : Page) (count bytes : ℕ) → answerOf answer ≡ pageReply file from out .answer
-    → left ≡ pageReply file from out .bytes → answer ≡ Lines count bytes → (bytes ≤ length left) × (from + count ≤ longestFile)
-page-left file from out left answer count bytes e l is =
-    let w = page-within file from out count bytes (sym e ∙ ap answerOf is) in
-    (omega (arith, w .0, page-kept file from out, ap length l), w .1)
+-- of the code's answer
+pub page-answered : (file : List ℕ) (from : ℕ) (out : List ℕ) (answer : Page) (count bytes : ℕ) → answerOf answer ≡ pageReply file from out .answer → answer ≡ Lines count bytes
+    → (bytes ≤ length out) × (from + count ≤ longestFile)
+page-answered file from out answer count bytes e is = page-within file from out count bytes (sym e ∙ ap answerOf is)

@@ -19,7 +19,7 @@ unfoldable pub fitting : ℕ → List (List ℕ) → List (List ℕ)
 fitting room [] = []
 fitting room (l ∷ ls) = fittingIf (leb (length l) room) l (fitting (room - length l) ls)
 
--- what a page answers. Plain data, open to users, as the definitions below but the last are
+-- what a page answers. Plain data, open to users
 pub data PageAnswer : Type 0 where
   -- how many lines stand in the lent bytes, and how many bytes they take
   page : ℕ → ℕ → PageAnswer

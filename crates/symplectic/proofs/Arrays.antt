@@ -1,8 +1,8 @@
 -- The rows of an action: how many there are, and an array whose rows are written one by one from the start.
 -- Assumes nothing.
 use mathlib.Core.Path.{_≡_, refl, sym, ap, ap₂, _∙_}
-use mathlib.Core.List.{List, [], _∷_, _++_, map}
-use Prim.Native.Nat.{ℕ, zero, suc, _+_, _*_, _≤_, _<_, min}
+use mathlib.Core.List.{List, [], _∷_, _++_}
+use Prim.Native.Nat.{ℕ, zero, suc, _+_, _≤_, _<_, min}
 use native.Mathlib.Nat.{le-of-suc-le-suc, not-suc-le-zero}
 use native.Mathlib.Omega.{arith}
 use lib.ListN.{length, getD, set, take, drop, replicate}
@@ -11,7 +11,6 @@ use Rattle.binar.specs.declared.Row.{Row}
 use Rattle.binar.specs.Rows.{val}
 use Rattle.binar.specs.inner.Blank.{blank}
 use Rattle.blocks.specs.Blocks.{vals}
-use Rattle.blocks.specs.Matrices.{units}
 use Rattle.blocks.proofs.Units.{take-map}
 use Rattle.blocks.proofs.Values.{vals-get, vals-set, vals-length, laid-more}
 use Rattle.symplectic.specs.declared.Action.{Action}

@@ -6,7 +6,7 @@ use Prim.Native.Nat.{ℕ, _+_, _-_, _*_, _/_, _%_, _^_, _≤_, _<_}
 use native.Mathlib.Nat.{mod-lt, mod-eq-of-lt, div-eq-of-lt, zero-mod, mul-assoc, mul-mod-left, add-zero}
 use native.Mathlib.Omega.{arith}
 use lib.Arith.{digits-lt}
-use lib.Pow.{pow-pos, pow-lt, pow-mono, pow-add, mod-pow-add, split, shl-shr, high, low}
+use lib.Pow.{pow-pos, pow-lt, pow-add, mod-pow-add, split, shl-shr, high, low}
 use Rattle.binar.specs.Bits.{_⊻_, select, bit, _⊕_, dot}
 use Rattle.binar.specs.Rows.{width, rowBound}
 use Rattle.binar.proofs.Widths.{pow-bound}

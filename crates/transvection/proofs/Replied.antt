@@ -1,13 +1,13 @@
 -- What the greedy call replies: each refusal in its turn, and the whole list where every question is passed.
 -- Assumes nothing.
-use mathlib.Core.Path.{_≡_, refl, sym, ap, _∙_, subst}
+use mathlib.Core.Path.{_≡_, sym, ap, _∙_, subst}
 use mathlib.Core.List.{List}
 use Prim.Native.Nat.{ℕ, suc, _*_, _+_, _^_, _≤_, _<_}
 use native.Mathlib.Omega.{arith}
 use lib.ListN.{length, take}
 use Rattle.blocks.specs.Matrices.{All}
 use Rattle.blocks.specs.Words.{rowsOfWords, laid}
-use Rattle.blocks.proofs.Values.{rows-count, laid-length, laid-front}
+use Rattle.blocks.proofs.Values.{rows-count, laid-front}
 use Rattle.symplectic.specs.Actions.{maxQubits}
 use Rattle.symplectic.specs.declared.Figures.{Figures}
 use Rattle.symplectic.specs.Replies.{Reply, refused, listed, actionQuestions, listQuestions, Replays}
@@ -63,11 +63,6 @@ module _ (n : ℕ) (rows out : List ℕ) where
   unfolding greedyReply
   greedy-listed count left e c l = meets-answer Promised asked out answer greedy-replays (figuresOf (Listed count)) e left (ap (λ (k : ℕ). figuresOf (Listed k)) c) l
 
-  -- the lent words are as many as before
-  pub greedy-kept : length (greedyReply n rows out .words) ≡ length out
-  unfolding greedyReply
-  greedy-kept = holds-unless (λ left t. length left ≡ length out) asked out answer (λ k. refl) (λ e. laid-length n (greedyList n (rowsOfWords n rows)) out)
-
   -- the listed vectors have 2n columns
   pub greedy-fits : All (λ v. v < 2 ^ (n + n)) (take (greedyReply n rows out .figures .count) (rowsOfWords n (greedyReply n rows out .words)))
   unfolding greedyReply
@@ -84,7 +79,7 @@ module _ (n : ℕ) (rows out : List ℕ) where
           (sym (laid-front n wide vs out (greedy-lt n (rowsOfWords n rows) a) (omega (arith, known .1, greedy-length n (rowsOfWords n rows) a))))
           (greedy-lt n (rowsOfWords n rows) a)
 
-  -- another count of rows
+  -- another count of rows is refused
   pub greedy-miscounted : n ≤ maxQubits → (length rows ≡ n + n → ⊥) → greedyReply n rows out ≡ refused 2 0 out
   unfolding greedyReply
   greedy-miscounted few h =

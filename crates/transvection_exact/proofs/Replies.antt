@@ -11,7 +11,7 @@ use lib.ListN.{length, take}
 use borrow.Author.Tests.{leb-true, leb-false}
 use Rattle.blocks.specs.Matrices.{times, All}
 use Rattle.blocks.specs.Words.{rowsOfWords}
-use Rattle.blocks.proofs.Values.{rows-count, laid-length}
+use Rattle.blocks.proofs.Values.{rows-count}
 use Rattle.symplectic.specs.Actions.{maxQubits}
 use Rattle.symplectic.specs.Turns.{product}
 use Rattle.symplectic.specs.Replies.{Reply, refused, unlessRefused, actionQuestions, listQuestions}
@@ -114,14 +114,6 @@ module _ (n : ℕ) (words : List ℕ) (budget : ℕ) (out : List ℕ) where
   pub spent-looks : reply .figures .number ≡ 6 → reply .figures .looks ≡ budget
   spent-looks z = spent-of n rows asked budget wanted out reply minimal-ends z .2
 
-  -- the lent words are as many as before
-  pub minimal-kept : length (reply .words) ≡ length out
-  minimal-kept = go (reply .figures .number) refl
-    where
-      go : (k : ℕ) → reply .figures .number ≡ k → length (reply .words) ≡ length out
-      go zero z = ap (λ (r : Reply). length (r .words)) (the z .is) ∙ laid-length n (the z .list) out
-      go (suc k) z = ap length (refused-left (λ e. omega arith) .0)
-
   -- the listed vectors have 2n columns
   pub minimal-fits : All (λ v. v < 2 ^ (n + n)) (take (reply .figures .count) (rowsOfWords n (reply .words)))
   minimal-fits = go (reply .figures .number) refl
@@ -131,7 +123,7 @@ module _ (n : ℕ) (words : List ℕ) (budget : ℕ) (out : List ℕ) where
       go (suc k) z =
           subst (λ (c : ℕ). All (λ v. v < 2 ^ (n + n)) (take c (rowsOfWords n (reply .words)))) (sym (refused-left (λ e. omega arith) .1)) tt
 
-  -- another count of rows
+  -- another count of rows is refused
   pub minimal-miscounted : n ≤ maxQubits → (length words ≡ n + n → ⊥) → minimalReply n words budget out ≡ refused 2 0 out
   unfolding minimalReply
   minimal-miscounted few h =

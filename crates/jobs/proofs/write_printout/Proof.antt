@@ -1,11 +1,12 @@
--- `write_printout` is safe: the page lies within the lent bytes, by `page-left`.
+-- `write_printout` is safe: the page lies within the lent bytes, by `page-answered`.
 -- Assumes nothing.
 use mathlib.Core.Path.{sym}
 use Prim.Native.Nat.{_≤_}
+use native.Mathlib.Omega.{arith}
 use lib.ListN.{length}
 use lib.Seq.{length-take-le}
 use borrow.Author.Needs.{needs}
-use Rattle.printout.proofs.Whole.{page-left}
+use Rattle.printout.proofs.Whole.{page-answered}
 use Rattle.jobs.proofs.write_printout.Statement.{statement}
 use Rattle.jobs.proofs.write_printout.Tie as tie
 
@@ -14,7 +15,8 @@ within c =
     let p = c .before .before .before .print-page in
     let b = c .before .before .before .before .before in
     let f = c .bytes .given in
-    page-left (b .before .before .args .file .now) 0 (b .large-buffer .result) (p .last .1 .1 .0) (p .result) (f .0 .0) (f .0 .1 .0) (p .ensures .0) (p .ensures .1) (f .1) .0
+    let w = page-answered (b .before .before .args .file .now) 0 (b .large-buffer .result) (p .result) (f .0 .0) (f .0 .1 .0) (p .ensures .0) (f .1) in
+    omega (arith, w .0, p .kept .1 .1 .0)
 
 large-buffer-requires : tie.Need-large-buffer-requires
 large-buffer-requires c κs = search needs

@@ -1,4 +1,4 @@
--- `gate_rows` lends the first 2n of its blank words, and holds what the call tells and leaves, by `gates-loaded` and `gates-refused`.
+-- `gate_rows` lends the first 2n of its blank words, and holds what the call answers and leaves, by `gates-loaded` and `gates-refused`.
 -- Assumes nothing.
 use Prim.Native.Nat.{_+_}
 use borrow.Author.Needs.{needs}
@@ -31,14 +31,14 @@ returns c =
     let s = c .before .before .before .before .before .before .before in
     let call = c .before .before .before .before .gate-action in
     let t = c .before .before .figures-of in
-    gates-loaded (s .args .n) (s .pre) (s .args .bytes .now) (t .result) (call .last .1 .1 .0) (t .ensures ∙ call .ensures .0) (call .ensures .1 .0) (c .if1 .taken)
+    gates-loaded (s .args .n) (s .pre) (s .args .bytes .now) (t .result) (t .ensures ∙ call .ensures .0) (call .last .1 .1 .0) (call .kept .1 .1 .0) (call .ensures .1 .0) (c .if1 .taken)
 
 returns-2 : tie.Need-returns-2
 returns-2 c =
     let s = c .before .before .before .before .before .before .before in
     let call = c .before .before .before .before .gate-action in
     let t = c .before .before .figures-of in
-    gates-refused (s .args .n) (s .pre) (s .args .bytes .now) (t .result) (call .last .1 .1 .0) (t .ensures ∙ call .ensures .0) (call .ensures .1 .0) (c .if1 .left)
+    gates-refused (s .args .n) (s .pre) (s .args .bytes .now) (t .result) (t .ensures ∙ call .ensures .0) (call .last .1 .1 .0) (c .if1 .left)
 
 pub gate-rows-spec : {M : Type 1} → statement M
 gate-rows-spec =

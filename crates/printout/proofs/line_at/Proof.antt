@@ -3,7 +3,6 @@
 use mathlib.Core.Path.{_∙_}
 use Prim.Native.Nat.{_/_}
 use native.Mathlib.Omega.{arith}
-use borrow.Author.Needs.{needs}
 use Rattle.printout.proofs.Numbered.{file-min, file-greedy}
 use Rattle.printout.proofs.line_at.Statement.{statement}
 use Rattle.printout.proofs.line_at.Tie as tie

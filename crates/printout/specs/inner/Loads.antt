@@ -3,7 +3,7 @@
 use mathlib.Core.Path.{_≡_}
 use mathlib.Core.List.{List}
 use mathlib.Core.Logic.{_⊎_}
-use Prim.Native.Nat.{ℕ, zero, suc, _+_}
+use Prim.Native.Nat.{ℕ, _+_}
 use lib.ListN.{length, take}
 use Rattle.symplectic.specs.Replies.{Reply}
 use Rattle.printout.specs.declared.EntryAction.{EntryAction}
@@ -15,9 +15,9 @@ abbrev pub Miscounted : ℕ → Reply → Type 0
 Miscounted n action = (action .figures .number ≡ 0) × (length (action .words) ≡ n + n → ⊥)
 
 -- 2n rows; or the action's own refusal; or that of both calls
-abbrev pub Holds : ℕ → Reply → EntryAction → List ℕ → Type 0
-Holds n action Rows rows = (action .figures .number ≡ 0) × (action .words ≡ take (n + n) rows)
-Holds n action (Refused number) rows = ((number ≡ 0 → ⊥) × (action .figures .number ≡ number)) ⊎ ((number ≡ 2) × Miscounted n action)
+abbrev pub LoadsBy : ℕ → Reply → EntryAction → List ℕ → Type 0
+LoadsBy n action Rows rows = (action .figures .number ≡ 0) × (action .words ≡ take (n + n) rows)
+LoadsBy n action (Refused number) rows = ((number ≡ 0 → ⊥) × (action .figures .number ≡ number)) ⊎ ((number ≡ 2) × Miscounted n action)
 
 unfoldable pub Loads : ℕ → Reply → EntryRows → Type 0
-Loads n action l = Holds n action (l .found) (l .rows)
+Loads n action l = LoadsBy n action (l .found) (l .rows)

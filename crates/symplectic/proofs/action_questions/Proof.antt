@@ -11,7 +11,6 @@ use Rattle.blocks.specs.Blocks.{room}
 use Rattle.blocks.specs.Words.{rowsOfWords}
 use Rattle.blocks.proofs.Values.{rows-count}
 use Rattle.symplectic.specs.Turns.{symplectic}
-use Rattle.symplectic.specs.Answers.{numberOf}
 use Rattle.symplectic.specs.Replies.{fitAll}
 use Rattle.symplectic.proofs.Arrays.{loaded}
 use Rattle.symplectic.proofs.Questions.{question-1, question-2, question-3, question-4, questions-passed}

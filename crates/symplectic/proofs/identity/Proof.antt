@@ -5,7 +5,6 @@ use mathlib.Core.List.{List, _++_}
 use Prim.Native.Nat.{ℕ, _+_, _-_, _≤_, _<_}
 use native.Mathlib.Omega.{arith}
 use lib.ListN.{take, drop, replicate}
-use Rattle.binar.specs.Rows.{width}
 use Rattle.binar.proofs.Ones.{unit-is}
 use Rattle.blocks.specs.Blocks.{vals}
 use Rattle.blocks.specs.Matrices.{units}

@@ -7,7 +7,6 @@ use native.Mathlib.Omega.{arith}
 use lib.ListN.{length, getD}
 use borrow.Author.Tests.{not-true, not-false}
 use Rattle.binar.specs.Bits.{bit, dot}
-use Rattle.binar.specs.Rows.{width}
 use Rattle.binar.proofs.Ones.{unit-is}
 use Rattle.blocks.proofs.Values.{unmapped}
 use Rattle.symplectic.specs.Actions.{mostRows, qubits, matrix}

@@ -1,6 +1,6 @@
 -- `qubits_of` answers the lesser of n and the most qubits, which is what the qubits of an action are.
 -- Assumes nothing.
-use Rattle.symplectic.specs.Actions.{maxQubits, capped, qubits}
+use Rattle.symplectic.specs.Actions.{capped, qubits}
 use borrow.Author.Needs.{needs}
 use Rattle.symplectic.proofs.qubits_of.Statement.{statement}
 use Rattle.symplectic.proofs.qubits_of.Tie as tie

@@ -10,7 +10,7 @@ use Rattle.symplectic.specs.declared.Question.{Question}
 use Rattle.symplectic.specs.declared.Question.the-variants.{Passed, TooManyQubits, WrongRowCount, RowTooWide, NotSymplectic}
 use Rattle.symplectic.specs.Actions.{maxQubits}
 use Rattle.symplectic.specs.Answers.{numberOf}
-use Rattle.symplectic.specs.Replies.{Reply, refused, actionQuestions}
+use Rattle.symplectic.specs.Replies.{Reply, actionQuestions}
 use Rattle.symplectic.proofs.Arrays.{loaded}
 use Rattle.symplectic.proofs.Questions.{passed-size, passed-count, list-passed, list-short}
 use Rattle.triangular.specs.Search.{budgeted}

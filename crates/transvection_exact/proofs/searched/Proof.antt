@@ -8,9 +8,8 @@ use Rattle.blocks.specs.Matrices.{matmul}
 use Rattle.blocks.specs.Words.{laid}
 use Rattle.blocks.proofs.Values.{unmapped}
 use Rattle.symplectic.specs.Actions.{mostRows, qubits, matrix}
-use Rattle.symplectic.specs.Replies.{Reply, refused}
+use Rattle.symplectic.specs.Replies.{Reply}
 use Rattle.symplectic.proofs.Arrays.{qubits-le, matrix-length}
-use Rattle.transvection_exact.specs.Answers.{figuresOf}
 use Rattle.transvection_exact.proofs.Outcomes.{searched-spent, searched-found, searched-unbordered, searched-bordered}
 use borrow.Author.Needs.{needs}
 use Rattle.transvection_exact.proofs.searched.Statement.{statement}

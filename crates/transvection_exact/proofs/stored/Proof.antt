@@ -2,7 +2,6 @@
 -- Assumes nothing.
 use mathlib.Core.Path.{ap}
 use Prim.Native.Nat.{ℕ}
-use Rattle.symplectic.specs.Replies.{listed}
 use Rattle.transvection_exact.specs.declared.Minimal.the-variants.{Listed}
 use Rattle.transvection_exact.specs.Answers.{figuresOf}
 use borrow.Author.Needs.{needs}
