@@ -1,6 +1,6 @@
 pub mod Words
 pub mod Lent
-pub mod Loading
+pub mod Holding
 pub mod Printing
 pub mod Numbered
 pub mod Filling

@@ -20,12 +20,12 @@ use Rattle.printout.specs.declared.EntryAction.{EntryAction}
 use Rattle.printout.specs.declared.EntryAction.the-variants.{Rows, Refused}
 use Rattle.printout.specs.declared.EntryRows.{EntryRows}
 use Rattle.printout.specs.Printout.{listWords, entryAction, unlessRefusedAction, entryLine}
-use Rattle.printout.specs.inner.Loads.{LoadsBy, Loads}
+use Rattle.printout.specs.inner.Held.{HeldBy, Held}
 use Rattle.printout.proofs.Lent.{lent-figures, left-count, left-words}
 
 -- ---- by what is held of the action of entry i
 
-module _ (file : List ℕ) (i : ℕ) (name : List ℕ) (call : ℕ → List ℕ → Reply) (l : EntryRows) (loads : Loads (qubitCount file) (entryAction file (entry file i)) l) where
+module _ (file : List ℕ) (i : ℕ) (name : List ℕ) (call : ℕ → List ℕ → Reply) (l : EntryRows) (loads : Held (qubitCount file) (entryAction file (entry file i)) l) where
   abbrev m : ℕ
   m = qubitCount file
 
@@ -35,8 +35,8 @@ module _ (file : List ℕ) (i : ℕ) (name : List ℕ) (call : ℕ → List ℕ 
   abbrev whole : ℕ → List ℕ
   whole k = line m i name (unlessRefusedAction action (call m) k)
 
-  held : (found : EntryAction) → l .found ≡ found → LoadsBy m action found (l .rows)
-  unfolding Loads
+  held : (found : EntryAction) → l .found ≡ found → HeldBy m action found (l .rows)
+  unfolding Held
   held found e = rw e at loads
 
   module _ (n : ℕ) (q : n ≡ qubitCount file) where

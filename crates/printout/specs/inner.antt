@@ -1,1 +1,1 @@
-pub mod Loads
+pub mod Held

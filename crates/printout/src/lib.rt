@@ -22,7 +22,7 @@ ghost use Rattle.lines.specs.Lines.{line, minName, greedyName};
 ghost use Rattle.lines.specs.Bytes.{bytesOf, nameBytes};
 ghost use Rattle.printout.specs.Printout.{jobBudget, blankWords, listWords, wordsOfBytes, entryAction, minLine, greedyLine, fileLines};
 ghost use Rattle.printout.specs.Pages.{pageReply, answerOf};
-ghost use Rattle.printout.specs.inner.Loads.{Loads};
+ghost use Rattle.printout.specs.inner.Held.{Held};
 
 // How many words a list has room for: 4n + 2 at the most qubits.
 const LIST_ROOM: usize = 130;
@@ -65,7 +65,7 @@ fn action_rows(file: &[u8], offset: u64, m: u64) -> [u64; MOST_ROWS]
 // The action of a gate sequence.
 fn gate_rows(n: u64, bytes: &[u8]) -> EntryRows
     requires { ⌜ n ≤ maxQubits ⌝ }
-    ensures { λ r. ⌜ Loads n (gatesReply n (now (bytes .entry)) (blankWords (n + n))) r ⌝ }
+    ensures { λ r. ⌜ Held n (gatesReply n (now (bytes .entry)) (blankWords (n + n))) r ⌝ }
 {
     let mut rows: [u64; MOST_ROWS] = [0; MOST_ROWS];
     let m = (n + n) as usize;
@@ -88,7 +88,7 @@ fn gate_rows(n: u64, bytes: &[u8]) -> EntryRows
 // The action of entry i. Another count of rows than 2n both calls refuse with 2.
 fn entry_rows(file: &[u8], i: u64) -> EntryRows
     requires { ⌜ (fileQuestions (now file) ≡ 0) × (i < entryCount (now file)) ⌝ }
-    ensures { λ r. ⌜ Loads (qubitCount (now (file .entry))) (entryAction (now (file .entry)) (entry (now (file .entry)) i)) r ⌝ }
+    ensures { λ r. ⌜ Held (qubitCount (now (file .entry))) (entryAction (now (file .entry)) (entry (now (file .entry)) i)) r ⌝ }
 {
     let n = job::qubit_count(file);
     let e = job::entry_at(file, i);

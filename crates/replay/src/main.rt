@@ -1,7 +1,7 @@
 // replay: reads reference answers, records, from standard input, makes the call of each, and counts the whole answers that agree.
 // A record is a header of 32 bytes, little-endian, and two runs of words: what is lent, and what is listed. See tools/mkreplay.
 // Not in the source.
-mod tally;
+mod score;
 
 use symplectic::Figures;
 ghost use mathlib.Core.Path.{_≡_};
@@ -208,5 +208,5 @@ fn agrees(c: Case, bytes: &[u8]) -> bool
 }
 
 fn main() {
-    tally::run();
+    score::run();
 }

@@ -15,8 +15,8 @@ use Rattle.job.proofs.Checks.{entry-known, passed-qubits, passed-entry}
 use Rattle.printout.specs.declared.EntryRows.{EntryRows}
 use Rattle.printout.specs.declared.EntryAction.the-variants.{Rows, Refused}
 use Rattle.printout.specs.Printout.{blankWords, entryAction}
-use Rattle.printout.specs.inner.Loads.{Loads}
-use Rattle.printout.proofs.Loading.{loads-miscounted, loads-given, loads-made}
+use Rattle.printout.specs.inner.Held.{Held}
+use Rattle.printout.proofs.Holding.{held-miscounted, held-given, held-made}
 use Rattle.printout.proofs.entry_rows.Statement.{statement}
 use Rattle.printout.proofs.entry_rows.Tie as tie
 
@@ -31,9 +31,9 @@ known c =
 
 -- what is held of the entry that was read is held of entry i
 of-entry : (c : tie.After-entry-at) (l : EntryRows) → let file = c .before .before .before .args .file .now in
-    Loads (qubitCount file) (entryAction file (entryOf (c .entry-at .result))) l
-    → Loads (qubitCount file) (entryAction file (entry file (c .before .before .before .args .i))) l
-of-entry c l = let file = c .before .before .before .args .file .now in subst (λ (x : Entry). Loads (qubitCount file) (entryAction file x) l) (c .entry-at .ensures)
+    Held (qubitCount file) (entryAction file (entryOf (c .entry-at .result))) l
+    → Held (qubitCount file) (entryAction file (entry file (c .before .before .before .args .i))) l
+of-entry c l = let file = c .before .before .before .args .file .now in subst (λ (x : Entry). Held (qubitCount file) (entryAction file x) l) (c .entry-at .ensures)
 
 qubit-count-requires : tie.Need-qubit-count-requires
 qubit-count-requires c κs = search needs
@@ -56,7 +56,7 @@ returns c =
     let file = a .before .before .before .args .file .now in
     let rows : List ℕ = replicate mostRows 0 in
     of-entry a (record { found = Refused 2; rows = rows })
-    (loads-miscounted file (entryOf (a .entry-at .result)) rows (c .before .if1 .taken) (λ m. c .if2 .taken (m ∙ ap (λ (k : ℕ). k + k) (sym (a .before .qubit-count .ensures)))))
+    (held-miscounted file (entryOf (a .entry-at .result)) rows (c .before .if1 .taken) (λ m. c .if2 .taken (m ∙ ap (λ (k : ℕ). k + k) (sym (a .before .qubit-count .ensures)))))
 
 action-rows-requires : tie.Need-action-rows-requires
 action-rows-requires c κs =
@@ -68,7 +68,7 @@ returns-2 c =
     let file = a .before .before .before .args .file .now in
     let rows = c .action-rows .result in
     of-entry a (record { found = Rows; rows = rows })
-    (loads-given file (entryOf (a .entry-at .result)) rows (c .before .before .if1 .taken) (c .before .if2 .left ∙ ap (λ (k : ℕ). k + k) (a .before .qubit-count .ensures)) (c .action-rows .ensures))
+    (held-given file (entryOf (a .entry-at .result)) rows (c .before .before .if1 .taken) (c .before .if2 .left ∙ ap (λ (k : ℕ). k + k) (a .before .qubit-count .ensures)) (c .action-rows .ensures))
 
 part-size-requires : tie.Need-part-size-requires
 part-size-requires c κs = search needs
@@ -99,9 +99,9 @@ returns-3 c =
     let l = c .gate-rows .result in
     let same : take (e .offset + size .result - e .offset) (drop (e .offset) file) ≡ part file (e .offset) (partSize e) = part-cut file (e .offset) (size .result) ∙ ap (part file (e .offset)) (size .ensures) in
     of-entry a l
-    (loads-made file e (c .before .before .before .if1 .left) l
-    (subst (λ (m : ℕ). Loads m (gatesReply m (part file (e .offset) (partSize e)) (blankWords (m + m))) l) (a .before .qubit-count .ensures)
-    (subst (λ (bytes : List ℕ). Loads n (gatesReply n bytes (blankWords (n + n))) l) same (c .gate-rows .ensures))))
+    (held-made file e (c .before .before .before .if1 .left) l
+    (subst (λ (m : ℕ). Held m (gatesReply m (part file (e .offset) (partSize e)) (blankWords (m + m))) l) (a .before .qubit-count .ensures)
+    (subst (λ (bytes : List ℕ). Held n (gatesReply n bytes (blankWords (n + n))) l) same (c .gate-rows .ensures))))
 
 pub entry-rows-spec : {M : Type 1} → statement M
 entry-rows-spec =

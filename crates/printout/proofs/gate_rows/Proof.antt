@@ -5,7 +5,7 @@ use borrow.Author.Needs.{needs}
 use mathlib.Core.Path.{_∙_}
 use Rattle.symplectic.specs.Actions.{mostRows}
 use Rattle.printout.proofs.Lent.{lent-length}
-use Rattle.printout.proofs.Loading.{gates-loaded, gates-refused}
+use Rattle.printout.proofs.Holding.{gates-loaded, gates-refused}
 use Rattle.printout.proofs.gate_rows.Statement.{statement}
 use Rattle.printout.proofs.gate_rows.Tie as tie
 

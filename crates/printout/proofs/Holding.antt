@@ -15,18 +15,18 @@ use Rattle.job.proofs.Numbers.{part-rows}
 use Rattle.printout.specs.declared.EntryAction.the-variants.{Rows, Refused}
 use Rattle.printout.specs.declared.EntryRows.{EntryRows}
 use Rattle.printout.specs.Printout.{blankWords, wordsOfBytes, actionBy, entryAction}
-use Rattle.printout.specs.inner.Loads.{Loads}
+use Rattle.printout.specs.inner.Held.{Held}
 use Rattle.printout.proofs.Words.{words-length}
 use Rattle.printout.proofs.Lent.{lent-figures, left-words}
 
 module _ (n : ℕ) (action : Reply) (rows : List ℕ) where
-  pub loads-rows : action .figures .number ≡ 0 → action .words ≡ take (n + n) rows → Loads n action (record { found = Rows; rows = rows })
-  unfolding Loads
-  loads-rows e w = (e, w)
+  pub held-rows : action .figures .number ≡ 0 → action .words ≡ take (n + n) rows → Held n action (record { found = Rows; rows = rows })
+  unfolding Held
+  held-rows e w = (e, w)
 
-  pub loads-refused : (number : ℕ) → (number ≡ 0 → ⊥) → action .figures .number ≡ number → Loads n action (record { found = Refused number; rows = rows })
-  unfolding Loads
-  loads-refused number h e = inl (h, e)
+  pub held-refused : (number : ℕ) → (number ≡ 0 → ⊥) → action .figures .number ≡ number → Held n action (record { found = Refused number; rows = rows })
+  unfolding Held
+  held-refused number h e = inl (h, e)
 
 -- of a gate sequence, by the figures that the call answers and the words that it leaves, where it is lent the first 2n of blank words
 module _ (n : ℕ) (few : n ≤ maxQubits) (bytes : List ℕ) (t : Figures) (told : t ≡ gatesReply n bytes (take (n + n) (replicate mostRows 0)) .figures) (left : List ℕ) where
@@ -40,13 +40,13 @@ module _ (n : ℕ) (few : n ≤ maxQubits) (bytes : List ℕ) (t : Figures) (tol
   number-is = sym (ap (λ (f : Figures). f .number) (lent-figures (n + n) mostRows fits (gatesReply n bytes) t told))
 
   pub gates-loaded : length left ≡ length (take {A = ℕ} (n + n) (replicate mostRows 0)) → left ≡ gatesReply n bytes (take (n + n) (replicate mostRows 0)) .words → t .number ≡ 0
-      → Loads n (gatesReply n bytes (blankWords (n + n))) (record { found = Rows; rows = left ++ drop (n + n) (replicate mostRows 0) })
+      → Held n (gatesReply n bytes (blankWords (n + n))) (record { found = Rows; rows = left ++ drop (n + n) (replicate mostRows 0) })
   gates-loaded kept is z =
-      loads-rows n (gatesReply n bytes (blankWords (n + n))) rows (number-is ∙ z) (sym (left-words (n + n) mostRows fits left kept (gatesReply n bytes) is))
+      held-rows n (gatesReply n bytes (blankWords (n + n))) rows (number-is ∙ z) (sym (left-words (n + n) mostRows fits left kept (gatesReply n bytes) is))
 
   pub gates-refused : (t .number ≡ 0 → ⊥)
-      → Loads n (gatesReply n bytes (blankWords (n + n))) (record { found = Refused (t .number); rows = left ++ drop (n + n) (replicate mostRows 0) })
-  gates-refused h = loads-refused n (gatesReply n bytes (blankWords (n + n))) rows (t .number) h number-is
+      → Held n (gatesReply n bytes (blankWords (n + n))) (record { found = Refused (t .number); rows = left ++ drop (n + n) (replicate mostRows 0) })
+  gates-refused h = held-refused n (gatesReply n bytes (blankWords (n + n))) rows (t .number) h number-is
 
 -- of an entry, by its kind
 module _ (file : List ℕ) (e : Entry) where
@@ -73,19 +73,19 @@ module _ (file : List ℕ) (e : Entry) where
       go (suc k) z = refl
 
   module _ (rows : List ℕ) (z : e .kind ≡ 0) where
-    pub loads-miscounted : (e .count ≡ qubitCount file + qubitCount file → ⊥) → Loads (qubitCount file) (entryAction file e) (record { found = Refused 2; rows = rows })
-    unfolding Loads
-    loads-miscounted h =
-        subst (λ (a : Reply). Loads n a (record { found = Refused 2; rows = rows })) (sym (action-given z))
+    pub held-miscounted : (e .count ≡ qubitCount file + qubitCount file → ⊥) → Held (qubitCount file) (entryAction file e) (record { found = Refused 2; rows = rows })
+    unfolding Held
+    held-miscounted h =
+        subst (λ (a : Reply). Held n a (record { found = Refused 2; rows = rows })) (sym (action-given z))
         (inr (refl, (refl, λ m. h (sym (words-length (e .count) (part file (e .offset) (8 * e .count))) ∙ m))))
 
-    pub loads-given : e .count ≡ qubitCount file + qubitCount file → take (e .count) rows ≡ wordsOfBytes (e .count) (part file (e .offset) (8 * e .count))
-        → Loads (qubitCount file) (entryAction file e) (record { found = Rows; rows = rows })
-    loads-given c w =
-        subst (λ (a : Reply). Loads n a (record { found = Rows; rows = rows })) (sym (action-given z))
-        (loads-rows n given rows refl (sym w ∙ ap (λ (k : ℕ). take k rows) c))
+    pub held-given : e .count ≡ qubitCount file + qubitCount file → take (e .count) rows ≡ wordsOfBytes (e .count) (part file (e .offset) (8 * e .count))
+        → Held (qubitCount file) (entryAction file e) (record { found = Rows; rows = rows })
+    held-given c w =
+        subst (λ (a : Reply). Held n a (record { found = Rows; rows = rows })) (sym (action-given z))
+        (held-rows n given rows refl (sym w ∙ ap (λ (k : ℕ). take k rows) c))
 
-  pub loads-made : (e .kind ≡ 0 → ⊥) → (l : EntryRows)
-      → Loads (qubitCount file) (gatesReply (qubitCount file) (part file (e .offset) (partSize e)) (blankWords (qubitCount file + qubitCount file))) l
-      → Loads (qubitCount file) (entryAction file e) l
-  loads-made h l = subst (λ (a : Reply). Loads n a l) (sym (action-made h))
+  pub held-made : (e .kind ≡ 0 → ⊥) → (l : EntryRows)
+      → Held (qubitCount file) (gatesReply (qubitCount file) (part file (e .offset) (partSize e)) (blankWords (qubitCount file + qubitCount file))) l
+      → Held (qubitCount file) (entryAction file e) l
+  held-made h l = subst (λ (a : Reply). Held n a l) (sym (action-made h))

@@ -15,9 +15,9 @@ abbrev pub Miscounted : ℕ → Reply → Type 0
 Miscounted n action = (action .figures .number ≡ 0) × (length (action .words) ≡ n + n → ⊥)
 
 -- 2n rows; or the action's own refusal; or that of both calls
-abbrev pub LoadsBy : ℕ → Reply → EntryAction → List ℕ → Type 0
-LoadsBy n action Rows rows = (action .figures .number ≡ 0) × (action .words ≡ take (n + n) rows)
-LoadsBy n action (Refused number) rows = ((number ≡ 0 → ⊥) × (action .figures .number ≡ number)) ⊎ ((number ≡ 2) × Miscounted n action)
+abbrev pub HeldBy : ℕ → Reply → EntryAction → List ℕ → Type 0
+HeldBy n action Rows rows = (action .figures .number ≡ 0) × (action .words ≡ take (n + n) rows)
+HeldBy n action (Refused number) rows = ((number ≡ 0 → ⊥) × (action .figures .number ≡ number)) ⊎ ((number ≡ 2) × Miscounted n action)
 
-unfoldable pub Loads : ℕ → Reply → EntryRows → Type 0
-Loads n action l = LoadsBy n action (l .found) (l .rows)
+unfoldable pub Held : ℕ → Reply → EntryRows → Type 0
+Held n action l = HeldBy n action (l .found) (l .rows)

@@ -2,8 +2,8 @@
 -- Assumes nothing.
 use Prim.Native.Nat.{_-_, _≤_}
 use borrow.Author.Needs.{needs}
-use Rattle.replay.proofs.tally.run.Statement.{statement}
-use Rattle.replay.proofs.tally.run.Tie as tie
+use Rattle.replay.proofs.score.run.Statement.{statement}
+use Rattle.replay.proofs.score.run.Tie as tie
 
 abbrev Inv-loop : tie.InvT-loop
 Inv-loop t₀ counter₀ t counter = counter ≤ 100000
@@ -17,8 +17,8 @@ loop-holds c = search needs
 next-record-requires : tie.Need-next-record-requires Inv-loop μ-loop
 next-record-requires c κs = search needs
 
-print-tally-requires : tie.Need-print-tally-requires Inv-loop μ-loop
-print-tally-requires c κs = search needs
+print-score-requires : tie.Need-print-score-requires Inv-loop μ-loop
+print-score-requires c κs = search needs
 
 returns : tie.Need-returns Inv-loop μ-loop
 returns c = search needs
@@ -35,8 +35,8 @@ loop-again c = search needs
 one-unread-requires : tie.Need-one-unread-requires Inv-loop μ-loop
 one-unread-requires c κs = search needs
 
-print-tally-requires-2 : tie.Need-print-tally-requires-2 Inv-loop μ-loop
-print-tally-requires-2 c κs = search needs
+print-score-requires-2 : tie.Need-print-score-requires-2 Inv-loop μ-loop
+print-score-requires-2 c κs = search needs
 
 returns-2 : tie.Need-returns-2 Inv-loop μ-loop
 returns-2 c = search needs
@@ -49,11 +49,11 @@ run-spec =
     μ-loop
     loop-holds
     next-record-requires
-    print-tally-requires
+    print-score-requires
     returns
     add-counter
     loop-less
     loop-again
     one-unread-requires
-    print-tally-requires-2
+    print-score-requires-2
     returns-2)

@@ -2,8 +2,8 @@
 -- Assumes nothing.
 use borrow.Author.Tests.{not-false}
 use borrow.Author.Needs.{needs}
-use Rattle.replay.proofs.tally.counted.Statement.{statement}
-use Rattle.replay.proofs.tally.counted.Tie as tie
+use Rattle.replay.proofs.score.counted.Statement.{statement}
+use Rattle.replay.proofs.score.counted.Tie as tie
 
 known-requires : tie.Need-known-requires
 known-requires c κs = search needs

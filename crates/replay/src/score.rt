@@ -11,15 +11,15 @@ ghost use Prim.Native.Nat.{_<_};
 ghost use Rattle.replay.specs.inner.Records.{HasRoom};
 
 // How many records of each kind agree and differ, and how many were not read.
-struct Tally {
+struct Score {
     agree: [u64; 4],
     differ: [u64; 4],
     unread: u64,
 }
 
-// The tally after a record, and whether it was the last.
+// The score after a record, and whether it was the last.
 struct Step {
-    tally: Tally,
+    score: Score,
     ended: bool,
 }
 
@@ -35,13 +35,13 @@ fn one_more(counts: [u64; 4], k: usize) -> [u64; 4]
     c
 }
 
-fn one_unread(t: Tally) -> Tally {
+fn one_unread(t: Score) -> Score {
     let mut s = t;
     s.unread = more(s.unread);
     s
 }
 
-fn counted(t: Tally, c: Case, bytes: &[u8]) -> Tally
+fn counted(t: Score, c: Case, bytes: &[u8]) -> Score
     requires { ⌜ HasRoom c ⌝ }
 {
     if !known(c.kind) {
@@ -61,15 +61,15 @@ fn counted(t: Tally, c: Case, bytes: &[u8]) -> Tally
     s
 }
 
-fn ended(t: Tally) -> Step {
+fn ended(t: Score) -> Step {
     Step {
-        tally: t,
+        score: t,
         ended: true,
     }
 }
 
 // Reads the words of a record and counts it. A record that is cut short is the last one.
-fn with_words(t: Tally, c: Case) -> Step
+fn with_words(t: Score, c: Case) -> Step
     requires { ⌜ HasRoom c ⌝ }
 {
     let k = span(c.lent + c.count, c.size);
@@ -79,13 +79,13 @@ fn with_words(t: Tally, c: Case) -> Step
         return ended(one_unread(t));
     }
     Step {
-        tally: counted(t, c, &bytes[..k]),
+        score: counted(t, c, &bytes[..k]),
         ended: false,
     }
 }
 
 // Reads a record and counts it. A header that is cut short or asks for too much room is the last one.
-fn next_record(t: Tally) -> Step {
+fn next_record(t: Score) -> Step {
     let mut head = [0u8; 32];
     let got = io::read_full(STDIN_FILENO, &mut head);
     if got == 0 {
@@ -112,7 +112,7 @@ fn print_kind(name: &[u8], agree: u64, differ: u64) {
     io::write_all(STDOUT_FILENO, b" differ\n");
 }
 
-fn print_tally(t: Tally) {
+fn print_score(t: Score) {
     print_kind(b"min ", t.agree[0], t.differ[0]);
     print_kind(b"greedy ", t.agree[1], t.differ[1]);
     print_kind(b"rebuild ", t.agree[2], t.differ[2]);
@@ -127,18 +127,18 @@ fn print_tally(t: Tally) {
 
 // Takes at most 100,000 steps; input whose end is not met by then counts as one record that was not read.
 pub(crate) fn run() {
-    let mut t = Tally {
+    let mut t = Score {
         agree: [0; 4],
         differ: [0; 4],
         unread: 0,
     };
     for _ in 0u64..100000 {
         let s = next_record(t);
-        t = s.tally;
+        t = s.score;
         if s.ended {
-            print_tally(t);
+            print_score(t);
             return;
         }
     }
-    print_tally(one_unread(t));
+    print_score(one_unread(t));
 }

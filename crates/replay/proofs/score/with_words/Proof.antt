@@ -7,8 +7,8 @@ use native.Mathlib.Omega.{arith}
 use lib.ListN.{length, drop}
 use lib.Seq.{length-take-le, length-front}
 use borrow.Author.Needs.{needs}
-use Rattle.replay.proofs.tally.with_words.Statement.{statement}
-use Rattle.replay.proofs.tally.with_words.Tie as tie
+use Rattle.replay.proofs.score.with_words.Statement.{statement}
+use Rattle.replay.proofs.score.with_words.Tie as tie
 
 -- the buffer after its first bytes are read, which is as long as before
 abbrev read : tie.After-read-full → List ℕ

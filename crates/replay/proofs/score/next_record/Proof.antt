@@ -2,8 +2,8 @@
 -- Assumes nothing.
 use borrow.Author.Tests.{not-false}
 use borrow.Author.Needs.{needs}
-use Rattle.replay.proofs.tally.next_record.Statement.{statement}
-use Rattle.replay.proofs.tally.next_record.Tie as tie
+use Rattle.replay.proofs.score.next_record.Statement.{statement}
+use Rattle.replay.proofs.score.next_record.Tie as tie
 
 slice-aggregate-read-full : tie.Need-slice-aggregate-read-full
 slice-aggregate-read-full c = search needs
