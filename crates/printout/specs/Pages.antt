@@ -2,7 +2,7 @@
 -- Assumes nothing.
 use mathlib.Core.Bool.{Bool, true, false}
 use mathlib.Core.List.{List, [], _∷_, _++_, flatten}
-use Prim.Native.Nat.{ℕ, zero, suc, _-_}
+use Prim.Native.Nat.{ℕ, zero, suc, _-_, _<_}
 use lib.Dec.{leb}
 use lib.ListN.{length, drop}
 use Rattle.job.specs.Files.{fileQuestions}
@@ -50,6 +50,12 @@ pageBy (suc number) file from out = record { answer = fileRefused (suc number); 
 -- the lines of the printout from line `from` on, as many whole ones as the lent bytes have room for
 unfoldable pub pageReply : List ℕ → ℕ → List ℕ → PageReply
 pageReply file from out = pageBy (fileQuestions file) file from out
+
+-- a page that is given where lines are left has at least one of them
+abbrev pub Onward : PageAnswer → Type 0
+Onward (page count bytes) = 0 < count
+Onward noSuchLine = Unit {0}
+Onward (fileRefused number) = Unit {0}
 
 -- what the code's answer says
 abbrev pub answerOf : Page → PageAnswer

@@ -11,7 +11,7 @@ use symplectic::MOST_ROWS;
 ghost use mathlib.Core.Path.{_≡_};
 ghost use mathlib.Core.List.{[]};
 ghost use Prim.Native.Nat.{_+_, _*_, _<_, _≤_};
-ghost use lib.ListN.{getD, take};
+ghost use lib.ListN.{length, getD, take};
 ghost use Rattle.symplectic.specs.Actions.{maxQubits, mostRows};
 ghost use Rattle.symplectic.specs.Replies.{refused};
 ghost use Rattle.gates.specs.Sequences.{gatesReply};
@@ -19,9 +19,9 @@ ghost use Rattle.transvection.specs.Greedy.{greedyReply};
 ghost use Rattle.transvection_exact.specs.Minimal.{minimalReply};
 ghost use Rattle.job.specs.Files.{part, qubitCount, entryCount, entry, fileQuestions};
 ghost use Rattle.lines.specs.Lines.{line, minName, greedyName};
-ghost use Rattle.lines.specs.Bytes.{bytesOf, nameBytes};
+ghost use Rattle.lines.specs.Bytes.{lineRoom, bytesOf, nameBytes};
 ghost use Rattle.printout.specs.Printout.{jobBudget, blankWords, listWords, wordsOfBytes, entryAction, minLine, greedyLine, fileLines};
-ghost use Rattle.printout.specs.Pages.{pageReply, answerOf};
+ghost use Rattle.printout.specs.Pages.{pageReply, Onward, answerOf};
 ghost use Rattle.printout.specs.inner.Held.{Held};
 
 // How many words a list has room for: 4n + 2 at the most qubits.
@@ -202,6 +202,7 @@ fn fill_page(file: &[u8], from: u64, last: u64, out: &mut [u8]) -> Page
     requires { ⌜ (fileQuestions (now file) ≡ 0) × (last ≡ 2 * entryCount (now file)) × (from < last) ⌝ }
     ensures answered { λ r. ⌜ answerOf r ≡ pageReply (now (file .entry)) from (now (out .entry)) .answer ⌝ }
     ensures left { λ r. ⌜ now (out .exit) ≡ pageReply (now (file .entry)) from (now (out .entry)) .bytes ⌝ }
+    ensures onward { λ r. ⌜ (lineRoom ≤ length (now (out .entry)) → Onward (answerOf r)) ⌝ }
 {
     let mut used: usize = 0;
     let mut k = from;
@@ -222,10 +223,11 @@ fn fill_page(file: &[u8], from: u64, last: u64, out: &mut [u8]) -> Page
 }
 
 // The lines of the printout from line `from` on, as many whole ones as `out` has room for. Line 2i is the minimal list of entry i, line
-// 2i + 1 its greedy list.
+// 2i + 1 its greedy list. A page with room for the longest line has a line, where one is left.
 pub fn print_page(file: &[u8], from: u64, out: &mut [u8]) -> Page
     ensures answered { λ r. ⌜ answerOf r ≡ pageReply (now (file .entry)) from (now (out .entry)) .answer ⌝ }
     ensures left { λ r. ⌜ now (out .exit) ≡ pageReply (now (file .entry)) from (now (out .entry)) .bytes ⌝ }
+    ensures onward { λ r. ⌜ (lineRoom ≤ length (now (out .entry)) → Onward (answerOf r)) ⌝ }
 {
     match job::file_questions(file) {
         FileAnswer::Passed => {}

@@ -3,11 +3,12 @@
 use mathlib.Core.Path.{_≡_, sym, _∙_}
 use mathlib.Core.List.{[]}
 use mathlib.Core.Logic.{⊎-elim}
-use Prim.Native.Nat.{_-_, _≤_, _<_}
+use Prim.Native.Nat.{_-_, _*_, _≤_, _<_}
 use native.Mathlib.Omega.{arith}
 use lib.ListN.{length}
 use borrow.Author.Needs.{needs}
-use Rattle.lines.specs.Bytes.{bytesOf}
+use Rattle.lines.specs.Bytes.{lineRoom, bytesOf}
+use Rattle.lines.proofs.Cuts.{bytes-length}
 use Rattle.printout.specs.Printout.{fileLines}
 use Rattle.printout.specs.Pages.{page, pageReply}
 use Rattle.printout.proofs.Numbered.{file-lines}
@@ -17,7 +18,7 @@ use Rattle.printout.proofs.fill_page.Statement.{statement}
 use Rattle.printout.proofs.fill_page.Tie as tie
 
 abbrev Inv-loop : tie.InvT-loop
-Inv-loop file from last out₀ used₀ k₀ out used k = (k ≤ last) × Filled (fileLines file) from out₀ k used out
+Inv-loop file from last out₀ used₀ k₀ out used k = (k ≤ last) × Filled (fileLines file) from out₀ k used out × (used ≤ (k - from) * lineRoom)
 
 abbrev μ-loop : tie.MeasureT-loop
 μ-loop file from last out₀ used₀ k₀ out used k = last - k
@@ -26,8 +27,12 @@ abbrev μ-loop : tie.MeasureT-loop
 lines : (c : tie.Start Inv-loop μ-loop) → c .args .last ≡ length (fileLines (c .args .file .now))
 lines c = c .pre .1 ∙ sym (file-lines (c .args .file .now))
 
+-- a line has no more bytes than its room
+short : (c : tie.After-line-at Inv-loop μ-loop) → length (bytesOf (c .line-at .result)) ≤ lineRoom
+short c = let long : length (c .line-at .result .bytes) ≡ lineRoom = search needs in omega (arith, bytes-length (c .line-at .result) long)
+
 loop-holds : tie.Need-loop-holds Inv-loop μ-loop
-loop-holds c = let s = c .before .before .args in (search needs, filled-none (fileLines (s .file .now)) (s .from) (s .out .now))
+loop-holds c = let s = c .before .before .args in (search needs, filled-none (fileLines (s .file .now)) (s .from) (s .out .now), omega arith)
 
 line-at-requires : tie.Need-line-at-requires Inv-loop μ-loop
 line-at-requires c κs = let s = c .before .before .before .before in (s .pre .0, omega (arith, s .pre .1))
@@ -68,6 +73,7 @@ loop-again c =
       search needs,
       filled-laid (fileLines (s .args .file .now)) (s .args .from) (s .args .out .now) (at .k) (at .used) (at .out) (at .inv .1) (omega (arith, lines s)) (bytesOf (l .result))
           (c .before .before .lay .last .1 .0) (e .before .length-of .result) (l .ensures) (e .before .length-of .ensures) (e .if1 .left) (c .before .before .lay .ensures),
+      omega (arith, at .inv .1 .begun, at .inv .2, e .before .length-of .ensures, short (e .before .before)),
     )
 
 sub-t16 : tie.Need-sub-t16 Inv-loop μ-loop
@@ -88,8 +94,13 @@ returns c =
     ⊎-elim (λ w. filled-last ls (s .args .from) out (at .k) (at .used) (at .out) f (omega (arith, lines s, w .left)))
     (λ w. filled-full ls (s .args .from) out (at .k) (at .used) (at .out) f (omega (arith, lines s, w .0 .taken)) (bytesOf (w .1 .result)) (w .1 .ensures) (omega (arith, w .2 .ensures, w .3 .taken)))
     (c .loop-test .came) in
-    replies (pageReply (s .args .file .now) (s .args .from) out) (page (at .k - s .args .from) (at .used)) (at .out)
-    (page-passed (s .args .file .now) (s .args .from) out (s .pre .0) ∙ filled-whole ls (s .args .from) out (at .k) (at .used) (at .out) f there none)
+    let r = replies (pageReply (s .args .file .now) (s .args .from) out) (page (at .k - s .args .from) (at .used)) (at .out)
+    (page-passed (s .args .file .now) (s .args .from) out (s .pre .0) ∙ filled-whole ls (s .args .from) out (at .k) (at .used) (at .out) f there none) in
+    let onward : lineRoom ≤ length out → 0 < at .k - s .args .from = λ h.
+    ⊎-elim (λ w. omega (arith, s .pre .2, w .left))
+    (λ w. let long : length (w .1 .result .bytes) ≡ lineRoom = search needs in omega (arith, f .begun, f .long, at .inv .2, bytes-length (w .1 .result) long, w .2 .ensures, w .3 .taken))
+    (c .loop-test .came) in
+    (r .0, (r .1, onward))
 
 pub fill-page-spec : {M : Type 1} → statement M
 fill-page-spec =

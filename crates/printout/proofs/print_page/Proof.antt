@@ -30,8 +30,9 @@ returns : tie.Need-returns
 returns c =
     let a = c .before .before in
     let s = a .before .before .before .args in
-    replies (pageReply (s .file .now) (s .from) (s .out .now)) (fileRefused 12) (s .out .now)
-    (page-refused (s .file .now) (s .from) (s .out .now) 11 (number a BadLength (c .enum-told2 .given .1)))
+    let r = replies (pageReply (s .file .now) (s .from) (s .out .now)) (fileRefused 12) (s .out .now)
+    (page-refused (s .file .now) (s .from) (s .out .now) 11 (number a BadLength (c .enum-told2 .given .1))) in
+    (r .0, (r .1, λ h. tt))
 
 enum-told-3 : tie.Need-enum-told-3
 enum-told-3 c = search needs
@@ -40,8 +41,9 @@ returns-2 : tie.Need-returns-2
 returns-2 c =
     let a = c .before .before in
     let s = a .before .before .before .args in
-    replies (pageReply (s .file .now) (s .from) (s .out .now)) (fileRefused 1) (s .out .now)
-    (page-refused (s .file .now) (s .from) (s .out .now) 0 (number a TooManyQubits (c .enum-told3 .given .1)))
+    let r = replies (pageReply (s .file .now) (s .from) (s .out .now)) (fileRefused 1) (s .out .now)
+    (page-refused (s .file .now) (s .from) (s .out .now) 0 (number a TooManyQubits (c .enum-told3 .given .1))) in
+    (r .0, (r .1, λ h. tt))
 
 enum-told-4 : tie.Need-enum-told-4
 enum-told-4 c = search needs
@@ -50,8 +52,9 @@ returns-3 : tie.Need-returns-3
 returns-3 c =
     let a = c .before .before in
     let s = a .before .before .before .args in
-    replies (pageReply (s .file .now) (s .from) (s .out .now)) (fileRefused 13) (s .out .now)
-    (page-refused (s .file .now) (s .from) (s .out .now) 12 (number a BadEntry (c .enum-told4 .given .1)))
+    let r = replies (pageReply (s .file .now) (s .from) (s .out .now)) (fileRefused 13) (s .out .now)
+    (page-refused (s .file .now) (s .from) (s .out .now) 12 (number a BadEntry (c .enum-told4 .given .1))) in
+    (r .0, (r .1, λ h. tt))
 
 entry-count-requires : tie.Need-entry-count-requires
 entry-count-requires c κs = search needs
@@ -63,8 +66,9 @@ returns-4 : tie.Need-returns-4
 returns-4 c =
     let a = c .before .before .before .before in
     let s = a .before .before .before .args in
-    replies (pageReply (s .file .now) (s .from) (s .out .now)) noSuchLine (s .out .now)
-    (page-past (s .file .now) (s .from) (s .out .now) (number a Passed (c .before .before .enum-told .given .1)) (omega (arith, file-lines (s .file .now), c .before .entry-count .ensures .0, c .if1 .taken)))
+    let r = replies (pageReply (s .file .now) (s .from) (s .out .now)) noSuchLine (s .out .now)
+    (page-past (s .file .now) (s .from) (s .out .now) (number a Passed (c .before .before .enum-told .given .1)) (omega (arith, file-lines (s .file .now), c .before .entry-count .ensures .0, c .if1 .taken))) in
+    (r .0, (r .1, λ h. tt))
 
 fill-page-requires : tie.Need-fill-page-requires
 fill-page-requires c κs =
