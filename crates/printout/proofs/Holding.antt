@@ -53,22 +53,22 @@ module _ (file : List ℕ) (e : Entry) where
   abbrev n : ℕ
   n = qubitCount file
 
-  abbrev given : Reply
-  given = record { figures = record { number = 0; count = e .count; looks = 0 }; words = wordsOfBytes (e .count) (part file (e .offset) (8 * e .count)) }
+  abbrev givenAction : Reply
+  givenAction = record { figures = record { number = 0; count = e .count; looks = 0 }; words = wordsOfBytes (e .count) (part file (e .offset) (8 * e .count)) }
 
-  abbrev made : Reply
-  made = gatesReply n (part file (e .offset) (partSize e)) (blankWords (n + n))
+  abbrev gateAction : Reply
+  gateAction = gatesReply n (part file (e .offset) (partSize e)) (blankWords (n + n))
 
-  action-given : e .kind ≡ 0 → entryAction file e ≡ given
+  action-given : e .kind ≡ 0 → entryAction file e ≡ givenAction
   unfolding entryAction
   action-given z =
       ap (λ (k : ℕ). actionBy k n (e .count) (part file (e .offset) (partSize e))) z ∙ ap (λ (s : ℕ). actionBy 0 n (e .count) (part file (e .offset) s)) (part-rows e z)
 
-  action-made : (e .kind ≡ 0 → ⊥) → entryAction file e ≡ made
+  action-made : (e .kind ≡ 0 → ⊥) → entryAction file e ≡ gateAction
   unfolding entryAction
   action-made h = go (e .kind) h
     where
-      go : (k : ℕ) → (k ≡ 0 → ⊥) → actionBy k n (e .count) (part file (e .offset) (partSize e)) ≡ made
+      go : (k : ℕ) → (k ≡ 0 → ⊥) → actionBy k n (e .count) (part file (e .offset) (partSize e)) ≡ gateAction
       go zero z = absurd (z refl)
       go (suc k) z = refl
 
@@ -83,7 +83,7 @@ module _ (file : List ℕ) (e : Entry) where
         → Held (qubitCount file) (entryAction file e) (record { found = Rows; rows = rows })
     held-given c w =
         subst (λ (a : Reply). Held n a (record { found = Rows; rows = rows })) (sym (action-given z))
-        (held-rows n given rows refl (sym w ∙ ap (λ (k : ℕ). take k rows) c))
+        (held-rows n givenAction rows refl (sym w ∙ ap (λ (k : ℕ). take k rows) c))
 
   pub held-made : (e .kind ≡ 0 → ⊥) → (l : EntryRows)
       → Held (qubitCount file) (gatesReply (qubitCount file) (part file (e .offset) (partSize e)) (blankWords (qubitCount file + qubitCount file))) l

@@ -6,3 +6,4 @@ pub mod Numbered
 pub mod Filling
 pub mod Paging
 pub mod Whole
+pub mod Called

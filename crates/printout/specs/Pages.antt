@@ -57,7 +57,7 @@ Onward (page count bytes) = 0 < count
 Onward noSuchLine = Unit {0}
 Onward (fileRefused number) = Unit {0}
 
--- what the code's answer says
+-- what the code's answer says. Open to users
 abbrev pub answerOf : Page → PageAnswer
 answerOf (Lines count bytes) = page count bytes
 answerOf NoSuchLine = noSuchLine

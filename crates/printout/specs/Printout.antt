@@ -8,7 +8,10 @@ use Rattle.gates.specs.Sequences.{gatesReply}
 use Rattle.transvection.specs.Greedy.{greedyReply}
 use Rattle.transvection_exact.specs.Minimal.{minimalReply}
 use Rattle.job.specs.Files.{littleEndian, part, qubitCount, entryCount, Entry, entry, partSize, fileQuestions}
-use Rattle.lines.specs.Lines.{minName, greedyName, line, fileLine}
+use Rattle.lines.specs.declared.Name.{Name}
+use Rattle.lines.specs.declared.Name.the-variants.{Min, Greedy}
+use Rattle.lines.specs.Lines.{line, fileLine}
+use Rattle.lines.specs.Bytes.{nameBytes}
 
 -- the program's budget. A plain number, open to users
 abbrev pub jobBudget : ℕ
@@ -40,23 +43,22 @@ abbrev pub unlessRefusedAction : Reply → (List ℕ → Reply) → ℕ → Repl
 unlessRefusedAction action call zero = call (action .words)
 unlessRefusedAction action call (suc number) = refused (suc number) 0 []
 
--- the line of a call on the action of entry i
-abbrev pub entryLine : List ℕ → ℕ → List ℕ → (ℕ → List ℕ → Reply) → List ℕ
-entryLine file i name call =
+-- the reply of the call that a line's name stands for
+abbrev pub callReply : Name → ℕ → List ℕ → List ℕ → Reply
+callReply Min n rows out = minimalReply n rows jobBudget out
+callReply Greedy n rows out = greedyReply n rows out
+
+-- the line of a name, of the action of entry i
+unfoldable pub entryLine : List ℕ → ℕ → Name → List ℕ
+entryLine file i which =
     let n = qubitCount file in
     let action = entryAction file (entry file i) in
-    line n i name (unlessRefusedAction action (call n) (action .figures .number))
-
-unfoldable pub minLine : List ℕ → ℕ → List ℕ
-minLine file i = entryLine file i minName (λ n rows. minimalReply n rows jobBudget (listWords n))
-
-unfoldable pub greedyLine : List ℕ → ℕ → List ℕ
-greedyLine file i = entryLine file i greedyName (λ n rows. greedyReply n rows (listWords n))
+    line n i (nameBytes which) (unlessRefusedAction action (λ rows. callReply which n rows (listWords n)) (action .figures .number))
 
 -- the lines of k entries from entry i on: the minimal list of each entry, then its greedy list
 unfoldable pub entryLines : List ℕ → ℕ → ℕ → List (List ℕ)
 entryLines file zero i = []
-entryLines file (suc k) i = minLine file i ∷ greedyLine file i ∷ entryLines file k (suc i)
+entryLines file (suc k) i = entryLine file i Min ∷ entryLine file i Greedy ∷ entryLines file k (suc i)
 
 -- the lines of a file that passes its questions
 unfoldable pub fileLines : List ℕ → List (List ℕ)

@@ -15,12 +15,10 @@ ghost use lib.ListN.{length, getD, take};
 ghost use Rattle.symplectic.specs.Actions.{maxQubits, mostRows};
 ghost use Rattle.symplectic.specs.Replies.{refused};
 ghost use Rattle.gates.specs.Sequences.{gatesReply};
-ghost use Rattle.transvection.specs.Greedy.{greedyReply};
-ghost use Rattle.transvection_exact.specs.Minimal.{minimalReply};
 ghost use Rattle.job.specs.Files.{part, qubitCount, entryCount, entry, fileQuestions};
-ghost use Rattle.lines.specs.Lines.{line, minName, greedyName};
+ghost use Rattle.lines.specs.Lines.{line};
 ghost use Rattle.lines.specs.Bytes.{lineRoom, bytesOf, nameBytes};
-ghost use Rattle.printout.specs.Printout.{jobBudget, blankWords, listWords, wordsOfBytes, entryAction, minLine, greedyLine, fileLines};
+ghost use Rattle.printout.specs.Printout.{blankWords, listWords, wordsOfBytes, entryAction, callReply, entryLine, fileLines};
 ghost use Rattle.printout.specs.Pages.{pageReply, Onward, answerOf};
 ghost use Rattle.printout.specs.inner.Held.{Held};
 
@@ -128,57 +126,41 @@ fn refusal_line(n: u64, i: u64, which: Name, number: u64) -> Line
     lines::entry_line(n, i, which, figures, &none[..0])
 }
 
-// The line of the minimal list of an action.
-fn min_answer(n: u64, i: u64, rows: [u64; MOST_ROWS]) -> Line
-    requires { ⌜ n ≤ maxQubits ⌝ }
-    ensures { λ r. ⌜ bytesOf r ≡ line n i minName (minimalReply n (take (n + n) rows) jobBudget (listWords n)) ⌝ }
+// The call that a name stands for: its figures, and its list in `out`.
+fn call(which: Name, n: u64, rows: &[u64], out: &mut [u64]) -> Figures
+    ensures answered { λ r. ⌜ r ≡ callReply which n (now (rows .entry)) (now (out .entry)) .figures ⌝ }
+    ensures left { λ r. ⌜ now (out .exit) ≡ callReply which n (now (rows .entry)) (now (out .entry)) .words ⌝ }
 {
-    let mut out: [u64; LIST_ROOM] = [0; LIST_ROOM];
-    let m = (n + n) as usize;
-    let k = (4 * n + 2) as usize;
-    let figures = minimal::list(n, &rows[..m], &mut out[..k]);
-    lines::entry_line(n, i, Name::Min, figures, &out[..k])
-}
-
-// The line of the greedy list of an action.
-fn greedy_answer(n: u64, i: u64, rows: [u64; MOST_ROWS]) -> Line
-    requires { ⌜ n ≤ maxQubits ⌝ }
-    ensures { λ r. ⌜ bytesOf r ≡ line n i greedyName (greedyReply n (take (n + n) rows) (listWords n)) ⌝ }
-{
-    let mut out: [u64; LIST_ROOM] = [0; LIST_ROOM];
-    let m = (n + n) as usize;
-    let k = (4 * n + 2) as usize;
-    let figures = greedy::list(n, &rows[..m], &mut out[..k]);
-    lines::entry_line(n, i, Name::Greedy, figures, &out[..k])
-}
-
-// The line of entry i's minimal list.
-fn min_line(file: &[u8], i: u64) -> Line
-    requires { ⌜ (fileQuestions (now file) ≡ 0) × (i < entryCount (now file)) ⌝ }
-    ensures { λ r. ⌜ bytesOf r ≡ minLine (now (file .entry)) i ⌝ }
-{
-    let n = job::qubit_count(file);
-    let action = entry_rows(file, i);
-    let found = action.found;
-    let rows = action.rows;
-    match found {
-        EntryAction::Rows => min_answer(n, i, rows),
-        EntryAction::Refused { number } => refusal_line(n, i, Name::Min, number),
+    match which {
+        Name::Min => minimal::list(n, rows, out),
+        Name::Greedy => greedy::list(n, rows, out),
     }
 }
 
-// The line of entry i's greedy list.
-fn greedy_line(file: &[u8], i: u64) -> Line
+// The line of the list of an action.
+fn answer_line(n: u64, i: u64, which: Name, rows: [u64; MOST_ROWS]) -> Line
+    requires { ⌜ n ≤ maxQubits ⌝ }
+    ensures { λ r. ⌜ bytesOf r ≡ line n i (nameBytes which) (callReply which n (take (n + n) rows) (listWords n)) ⌝ }
+{
+    let mut out: [u64; LIST_ROOM] = [0; LIST_ROOM];
+    let m = (n + n) as usize;
+    let k = (4 * n + 2) as usize;
+    let figures = call(which, n, &rows[..m], &mut out[..k]);
+    lines::entry_line(n, i, which, figures, &out[..k])
+}
+
+// The line of a name, of entry i.
+fn line_of(file: &[u8], i: u64, which: Name) -> Line
     requires { ⌜ (fileQuestions (now file) ≡ 0) × (i < entryCount (now file)) ⌝ }
-    ensures { λ r. ⌜ bytesOf r ≡ greedyLine (now (file .entry)) i ⌝ }
+    ensures { λ r. ⌜ bytesOf r ≡ entryLine (now (file .entry)) i which ⌝ }
 {
     let n = job::qubit_count(file);
     let action = entry_rows(file, i);
     let found = action.found;
     let rows = action.rows;
     match found {
-        EntryAction::Rows => greedy_answer(n, i, rows),
-        EntryAction::Refused { number } => refusal_line(n, i, Name::Greedy, number),
+        EntryAction::Rows => answer_line(n, i, which, rows),
+        EntryAction::Refused { number } => refusal_line(n, i, which, number),
     }
 }
 
@@ -191,9 +173,9 @@ fn line_at(file: &[u8], k: u64) -> Line
 {
     let i = k / 2;
     if k % 2 == 0 {
-        min_line(file, i)
+        line_of(file, i, Name::Min)
     } else {
-        greedy_line(file, i)
+        line_of(file, i, Name::Greedy)
     }
 }
 

@@ -1,25 +1,15 @@
--- `greedy_line` is the line of the call or of a refusal, by `line-passed` and `line-refused`.
+-- `line_of` is the line of the call or of a refusal, by `line-passed` and `line-refused`.
 -- Assumes nothing.
 use mathlib.Core.Path.{_≡_, _∙_}
-use mathlib.Core.List.{List}
-use Prim.Native.Nat.{ℕ, _≤_}
+use Prim.Native.Nat.{_≤_}
 use native.Mathlib.Omega.{arith}
 use borrow.Author.Needs.{needs}
 use Rattle.symplectic.specs.Actions.{maxQubits}
-use Rattle.symplectic.specs.Replies.{Reply}
-use Rattle.transvection.specs.Greedy.{greedyReply}
-use Rattle.transvection.proofs.Replied.{greedy-miscounted}
-use Rattle.job.specs.Files.{qubitCount}
 use Rattle.job.proofs.Checks.{passed-qubits}
-use Rattle.lines.specs.Lines.{greedyName}
 use Rattle.printout.specs.declared.EntryAction.the-variants.{Rows}
-use Rattle.printout.specs.Printout.{listWords, greedyLine}
 use Rattle.printout.proofs.Printing.{line-passed, line-refused}
-use Rattle.printout.proofs.greedy_line.Statement.{statement}
-use Rattle.printout.proofs.greedy_line.Tie as tie
-
-abbrev call : ℕ → List ℕ → Reply
-call n rows = greedyReply n rows (listWords n)
+use Rattle.printout.proofs.line_of.Statement.{statement}
+use Rattle.printout.proofs.line_of.Tie as tie
 
 qubit-count-requires : tie.Need-qubit-count-requires
 qubit-count-requires c κs = search needs
@@ -34,8 +24,8 @@ entry-rows-requires c κs = c .before .before .pre
 enum-told : tie.Need-enum-told
 enum-told c = search needs
 
-greedy-answer-requires : tie.Need-greedy-answer-requires
-greedy-answer-requires c κs =
+answer-line-requires : tie.Need-answer-line-requires
+answer-line-requires c κs =
     few (c .before .before .before .before)
 
 enum-known-found : tie.Need-enum-known-found
@@ -46,33 +36,31 @@ refusal-line-requires c κs =
     few (c .before .before .before .before .before)
 
 returns : tie.Need-returns
-unfolding greedyLine
 returns c =
     let a = c .before .before .before .before in
     let s = a .before .before .before .args in
     let passed : a .entry-rows .result .found ≡ Rows = search (needs, c .before .enum-told .given) in
-    c .greedy-answer .ensures
-    ∙ line-passed (s .file .now) (s .i) greedyName call (a .entry-rows .result) (a .entry-rows .ensures) (a .before .qubit-count .result) (a .before .qubit-count .ensures) passed
+    c .answer-line .ensures
+    ∙ line-passed (s .file .now) (s .i) (s .which) (a .entry-rows .result) (a .entry-rows .ensures) (a .before .qubit-count .result) (a .before .qubit-count .ensures) passed
 
 returns-2 : tie.Need-returns-2
-unfolding greedyLine
 returns-2 c =
     let a = c .before .before .before .before .before in
     let s = a .before .before .before in
     let file = s .args .file .now in
     let told = c .before .before .found .given in
     c .refusal-line .ensures
-    ∙ line-refused file (s .args .i) greedyName call (a .entry-rows .result) (a .entry-rows .ensures) (a .before .qubit-count .result) (a .before .qubit-count .ensures)
-    (λ rows. greedy-miscounted (qubitCount file) rows (listWords (qubitCount file)) (passed-qubits file (s .pre .0))) (told .0 .0) (told .1)
+    ∙ line-refused file (s .args .i) (s .args .which) (a .entry-rows .result) (a .entry-rows .ensures) (a .before .qubit-count .result) (a .before .qubit-count .ensures)
+    (passed-qubits file (s .pre .0)) (told .0 .0) (told .1)
 
-pub greedy-line-spec : {M : Type 1} → statement M
-greedy-line-spec =
+pub line-of-spec : {M : Type 1} → statement M
+line-of-spec =
     tie.close
     (tie.spec
     qubit-count-requires
     entry-rows-requires
     enum-told
-    greedy-answer-requires
+    answer-line-requires
     enum-known-found
     refusal-line-requires
     returns
