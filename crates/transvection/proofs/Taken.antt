@@ -129,8 +129,8 @@ module _ (n : ℕ) (F : List ℕ) (size : length F ≡ n + n) where
 pub units-taken : (n : ℕ) → nextTransvection n (units (n + n)) ≡ none
 units-taken n = go (nextTransvection n (units (n + n))) (taken n (units (n + n)) (units-length (n + n)))
   where
-    nothing : (z : ℕ) → added n (units (n + n)) z ≡ 0
-    nothing z =
+    identity-adds-none : (z : ℕ) → added n (units (n + n)) z ≡ 0
+    identity-adds-none z =
         sym (added-low n (units (n + n)) (units-length (n + n)) z) ∙ added-is n (units (n + n)) (z % 2 ^ (n + n)) (mod-lt z (pow-pos (n + n)))
         ∙ ap (λ t. (z % 2 ^ (n + n)) ⊕ t) (times-of-units (n + n) (z % 2 ^ (n + n)) (mod-lt z (pow-pos (n + n)))) ∙ sum-self (z % 2 ^ (n + n))
 
@@ -138,5 +138,5 @@ units-taken n = go (nextTransvection n (units (n + n))) (taken n (units (n + n))
     go none t = refl
     go (some v) t =
         absurd (⊎-elim
-        (λ p. true≢false (sym p ∙ ap (λ u. pairing n u (t .0)) (nothing (t .0)) ∙ pairing-comm n 0 (t .0) ∙ pairing-zero n (t .0)))
-        (λ w. w .1 (nothing (t .0))) (t .2))
+        (λ p. true≢false (sym p ∙ ap (λ u. pairing n u (t .0)) (identity-adds-none (t .0)) ∙ pairing-comm n 0 (t .0) ∙ pairing-zero n (t .0)))
+        (λ w. w .1 (identity-adds-none (t .0))) (t .2))

@@ -62,13 +62,13 @@ module _ (k : ℕ) (rows : List Row) where
   pub summed-next : (i : ℕ) (s : List Row) → 1 ≤ i → i < k → i < length s → Summed i s
       → (v : Row) → val v ≡ val (getD s (i - 1) blank) ⊕ val (getD s i blank) → Summed (i + 1) (set s i v)
   summed-next zero s p h l d v e = absurd (omega arith)
-  summed-next (suc i) s p h l d v e = (λ j g. done j g, λ j g. apart j (λ q. omega arith) ∙ d .1 j (omega arith))
+  summed-next (suc i) s p h l d v e = (λ j g. done j g, λ j g. set-elsewhere j (λ q. omega arith) ∙ d .1 j (omega arith))
     where
       M : List ℕ
       M = take k (vals rows)
 
-      apart : (j : ℕ) → (j ≡ suc i → ⊥) → getD (vals (set s (suc i) v)) j 0 ≡ getD (vals s) j 0
-      apart j n = ap (λ m. getD m j 0) (vals-set s (suc i) v) ∙ getD-set-other (vals s) (suc i) j (val v) 0 n
+      set-elsewhere : (j : ℕ) → (j ≡ suc i → ⊥) → getD (vals (set s (suc i) v)) j 0 ≡ getD (vals s) j 0
+      set-elsewhere j n = ap (λ m. getD m j 0) (vals-set s (suc i) v) ∙ getD-set-other (vals s) (suc i) j (val v) 0 n
 
       here : getD (vals (set s (suc i) v)) (suc i) 0 ≡ times (2 ^ suc (suc i) - 1) M
       here =
@@ -80,7 +80,7 @@ module _ (k : ℕ) (rows : List Row) where
 
       done : (j : ℕ) → j < suc i + 1 → getD (vals (set s (suc i) v)) j 0 ≡ times (2 ^ suc j - 1) M
       done j g = ⊎-elim (λ q. subst (λ n. getD (vals (set s (suc i) v)) n 0 ≡ times (2 ^ suc n - 1) M) (sym q) here)
-          (λ q. apart j (λ z. omega arith) ∙ d .0 j q) (eq-or-lt-of-le (le-of j g))
+          (λ q. set-elsewhere j (λ z. omega arith) ∙ d .0 j q) (eq-or-lt-of-le (le-of j g))
         where
           le-of : (j : ℕ) → j < suc i + 1 → j ≤ suc i
           le-of j g = omega arith

@@ -44,8 +44,8 @@ use Rattle.family.proofs.+symplectic_simplex.Tie.{close}
 abbrev μ-symplectic-simplex : Measures 0 symplectic-simplex-kinds.ps ℕ
 μ-symplectic-simplex κs a = a .0 .count
 
-abbrev given : ℕ → In 0 symplectic-simplex-kinds.ps
-given t =
+abbrev atMeasure : ℕ → In 0 symplectic-simplex-kinds.ps
+atMeasure t =
     and 0 symplectic-simplex-kinds.ps (is 0 symplectic-simplex-kinds.ps μ-symplectic-simplex t) symplectic-simplex.Pre
 
 abbrev below : ℕ → In 0 symplectic-simplex-kinds.ps
@@ -71,10 +71,10 @@ claims t = (
   extended-reads.Learnt,
 )
 
-size : (t : ℕ) (c : lts.Start (claims t) (given t) symplectic-simplex.Post) → length (basisOf (c .args .t1)) ≡ c .args .t1 .count
+size : (t : ℕ) (c : lts.Start (claims t) (atMeasure t) symplectic-simplex.Post) → length (basisOf (c .args .t1)) ≡ c .args .t1 .count
 size t c = basis-length (c .args .t1) (omega (arith, long c, c .pre .1))
   where
-    long : (c : lts.Start (claims t) (given t) symplectic-simplex.Post) → length (c .args .t1 .basis) ≡ width
+    long : (c : lts.Start (claims t) (atMeasure t) symplectic-simplex.Post) → length (c .args .t1 .basis) ≡ width
     long c = search (needs, unmapped)
 
 beside : (j k : ℕ) → j ≤ k → (j ≡ k → ⊥) → j < k
@@ -87,7 +87,7 @@ abbrev at : Space → ℕ → ℕ
 at s j = getD (basisOf s) j 0
 
 -- the simplex is that of the remainder, extended
-step : (t : ℕ) (c : lts.After-symplectic-simplex (claims t) (given t) symplectic-simplex.Post) (E : List ℕ) (d : ℕ) → c .before .before .before .before .before .args .t1 .count ≤ d
+step : (t : ℕ) (c : lts.After-symplectic-simplex (claims t) (atMeasure t) symplectic-simplex.Post) (E : List ℕ) (d : ℕ) → c .before .before .before .before .before .args .t1 .count ≤ d
     → matmul (basisOf (c .before .before .before .before .before .args .t1)) E ≡ formsOf (c .before .before .before .before .before .args .t1)
     → symplecticSimplex (form E) d (basisOf (c .before .before .before .before .before .args .t1))
     ≡ mapSome (extendedOf (form E) (first (c .before .before .before .before .before .args .t1)) (at (c .before .before .before .before .before .args .t1) (c .before .before .before .partner .result))) (simplexOf (c .symplectic-simplex .result))
@@ -104,16 +104,16 @@ step t c E d h fit =
     ∙ ap (mapSome (extendedOf (form E) (getD (basisOf s) 0 0) (getD (basisOf s) j 0)))
     (sym (c .symplectic-simplex .ensures .1 E (d - 1) (omega arith) (r .1 E fit .1) ∙ ap (symplecticSimplex (form E) (d - 1)) (r .1 E fit .0)))
 
-simplex-empty-requires : (t : ℕ) → lts.Need-empty-requires (claims t) (given t) symplectic-simplex.Post
+simplex-empty-requires : (t : ℕ) → lts.Need-empty-requires (claims t) (atMeasure t) symplectic-simplex.Post
 simplex-empty-requires t c κs = search needs
 
-simplex-zero-requires : (t : ℕ) → lts.Need-zero-requires (claims t) (given t) symplectic-simplex.Post
+simplex-zero-requires : (t : ℕ) → lts.Need-zero-requires (claims t) (atMeasure t) symplectic-simplex.Post
 simplex-zero-requires t c κs = search needs
 
-simplex-push-requires : (t : ℕ) → lts.Need-push-requires (claims t) (given t) symplectic-simplex.Post
+simplex-push-requires : (t : ℕ) → lts.Need-push-requires (claims t) (atMeasure t) symplectic-simplex.Post
 simplex-push-requires t c κs = search needs
 
-simplex-returns : (t : ℕ) → lts.Need-returns (claims t) (given t) symplectic-simplex.Post
+simplex-returns : (t : ℕ) → lts.Need-returns (claims t) (atMeasure t) symplectic-simplex.Post
 unfolding simplexOf
 simplex-returns t c =
     let s = c .before .before .before .before .args .t1 in
@@ -121,13 +121,13 @@ simplex-returns t c =
     c .push .ensures ∙ ap₂ (λ (l : List ℕ) (v : ℕ). take room (l ++ (v ∷ []))) (c .before .before .empty .ensures) (c .before .zero .ensures) ∙ push-fits [] 0 (omega arith) in
     (omega (arith, ap (λ (l : List ℕ). length l) rows), λ E d h fit. ap some rows ∙ sym (simplex-empty (form E) d (basisOf s) (size t (c .before .before .before .before) ∙ c .before .before .before .if1 .taken)))
 
-simplex-partner-requires : (t : ℕ) → lts.Need-partner-requires (claims t) (given t) symplectic-simplex.Post
+simplex-partner-requires : (t : ℕ) → lts.Need-partner-requires (claims t) (atMeasure t) symplectic-simplex.Post
 simplex-partner-requires t c κs = (pos-of-ne-zero (c .if1 .left), c .before .pre .1)
 
-simplex-empty-requires-2 : (t : ℕ) → lts.Need-empty-requires-2 (claims t) (given t) symplectic-simplex.Post
+simplex-empty-requires-2 : (t : ℕ) → lts.Need-empty-requires-2 (claims t) (atMeasure t) symplectic-simplex.Post
 simplex-empty-requires-2 t c κs = search needs
 
-simplex-returns-2 : (t : ℕ) → lts.Need-returns-2 (claims t) (given t) symplectic-simplex.Post
+simplex-returns-2 : (t : ℕ) → lts.Need-returns-2 (claims t) (atMeasure t) symplectic-simplex.Post
 unfolding simplexOf
 simplex-returns-2 t c =
     let s = c .before .before .before .before .args .t1 in
@@ -138,10 +138,10 @@ simplex-returns-2 t c =
       λ E d h fit. sym (simplex-alone (form E) d (basisOf s) (omega arith) (λ i a l. p .2 E fit .0 i a (omega (arith, c .before .if2 .taken)))),
     )
 
-simplex-pair-rest-requires : (t : ℕ) → lts.Need-pair-rest-requires (claims t) (given t) symplectic-simplex.Post
+simplex-pair-rest-requires : (t : ℕ) → lts.Need-pair-rest-requires (claims t) (atMeasure t) symplectic-simplex.Post
 simplex-pair-rest-requires t c κs = (c .before .partner .ensures .0, beside (c .before .partner .result) (c .before .before .before .args .t1 .count) (c .before .partner .ensures .1) (c .if2 .left), c .before .before .before .pre .1)
 
-simplex-symplectic-simplex-requires : (t : ℕ) → lts.Need-symplectic-simplex-requires (claims t) (given t) symplectic-simplex.Post
+simplex-symplectic-simplex-requires : (t : ℕ) → lts.Need-symplectic-simplex-requires (claims t) (atMeasure t) symplectic-simplex.Post
 simplex-symplectic-simplex-requires t c κs =
     let e = c .pair-rest .ensures .0 in
     let pos = pos-of-ne-zero (c .before .before .before .if1 .left) in
@@ -149,26 +149,26 @@ simplex-symplectic-simplex-requires t c κs =
     let h = c .before .before .before .before .pre .1 in
     search needs
 
-simplex-enum-told : (t : ℕ) → lts.Need-enum-told (claims t) (given t) symplectic-simplex.Post
+simplex-enum-told : (t : ℕ) → lts.Need-enum-told (claims t) (atMeasure t) symplectic-simplex.Post
 simplex-enum-told t c = search needs
 
 -- the partner stands among the members
-inside : (t : ℕ) (c : lts.After-symplectic-simplex (claims t) (given t) symplectic-simplex.Post)
+inside : (t : ℕ) (c : lts.After-symplectic-simplex (claims t) (atMeasure t) symplectic-simplex.Post)
     → c .before .before .before .partner .result < c .before .before .before .before .before .args .t1 .count
 inside t c =
     let p = c .before .before .before .partner in
     beside (p .result) (c .before .before .before .before .before .args .t1 .count) (p .ensures .1) (c .before .before .if2 .left)
 
-simplex-element-copy-out-extended : (t : ℕ) → lts.Need-element-copy-out-extended (claims t) (given t) symplectic-simplex.Post
+simplex-element-copy-out-extended : (t : ℕ) → lts.Need-element-copy-out-extended (claims t) (atMeasure t) symplectic-simplex.Post
 simplex-element-copy-out-extended t c = search needs
 
-simplex-mul-extended : (t : ℕ) → lts.Need-mul-extended (claims t) (given t) symplectic-simplex.Post
+simplex-mul-extended : (t : ℕ) → lts.Need-mul-extended (claims t) (atMeasure t) symplectic-simplex.Post
 simplex-mul-extended t c = omega (arith, inside t (c .before .before .before), c .before .before .before .before .before .before .before .before .pre .1)
 
-simplex-element-copy-out-extended-2 : (t : ℕ) → lts.Need-element-copy-out-extended-2 (claims t) (given t) symplectic-simplex.Post
+simplex-element-copy-out-extended-2 : (t : ℕ) → lts.Need-element-copy-out-extended-2 (claims t) (atMeasure t) symplectic-simplex.Post
 simplex-element-copy-out-extended-2 t c = omega (arith, inside t (c .before .before .before), c .before .before .before .before .before .before .before .before .pre .1)
 
-simplex-extended-requires : (t : ℕ) → lts.Need-extended-requires (claims t) (given t) symplectic-simplex.Post
+simplex-extended-requires : (t : ℕ) → lts.Need-extended-requires (claims t) (atMeasure t) symplectic-simplex.Post
 simplex-extended-requires t c κs =
     let r = c .before .before .before .before in
     let e = r .before .pair-rest .ensures .0 in
@@ -178,10 +178,10 @@ simplex-extended-requires t c κs =
     let k = inside t r in
     omega arith
 
-simplex-enum-told-2 : (t : ℕ) → lts.Need-enum-told-2 (claims t) (given t) symplectic-simplex.Post
+simplex-enum-told-2 : (t : ℕ) → lts.Need-enum-told-2 (claims t) (atMeasure t) symplectic-simplex.Post
 simplex-enum-told-2 t c = search needs
 
-simplex-returns-3 : (t : ℕ) → lts.Need-returns-3 (claims t) (given t) symplectic-simplex.Post
+simplex-returns-3 : (t : ℕ) → lts.Need-returns-3 (claims t) (atMeasure t) symplectic-simplex.Post
 unfolding simplexOf
 simplex-returns-3 t c =
     let r = c .before .before .before .before .before in
@@ -201,7 +201,7 @@ simplex-returns-3 t c =
           ∙ sym (step t r E d h fit ∙ ap (λ (m : Construction). mapSome (extendedOf (form E) (first s) (at s j)) (ifMade m vs)) is),
     )
 
-simplex-returns-4 : (t : ℕ) → lts.Need-returns-4 (claims t) (given t) symplectic-simplex.Post
+simplex-returns-4 : (t : ℕ) → lts.Need-returns-4 (claims t) (atMeasure t) symplectic-simplex.Post
 unfolding simplexOf
 simplex-returns-4 t c =
     let r = c .before .before in
@@ -221,7 +221,7 @@ simplex-returns-4 t c =
 
 pub +symplectic-simplex-spec : {M : Type 1} → statement M
 +symplectic-simplex-spec = close μ-symplectic-simplex λ t. lts.spec (claims t)
-    (given t)
+    (atMeasure t)
     symplectic-simplex.Post
     (simplex-empty-requires t)
     (simplex-zero-requires t)
