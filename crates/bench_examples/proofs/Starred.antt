@@ -20,9 +20,9 @@ use Rattle.transvection_exact.specs.Minimal.{coreSearch, minimalReply}
 use Rattle.gates.specs.Sequences.{readsTwo, gateQuestions, sequenceQuestions, sequenceTurns, gatesReply}
 use Rattle.gates.specs.Sheet.{sheet, gate, turnVector}
 use Rattle.job.specs.Files.{littleEndian, part, number, qubitCount, entryCount, entry, partSize, entryPasses, entriesPass, fileQuestions}
-use Rattle.lines.specs.Lines.{decimalIn, decimal, lettersFrom, letters, load, spelled, line, fileLine}
+use Rattle.lines.specs.Lines.{decimalIn, decimal, lettersFrom, letters, touchedFrom, touched, load, spelled, line, fileLine}
 use Rattle.printout.specs.Printout.{wordsOfBytes, entryAction, entryLine, entryLines, fileLines, printout}
 
 pub starred : map (λ (e : Example). answer (e .call)) table ≡ map (λ (e : Example). e .expected) table
-unfolding table answer zip zipWith flatten odd bit _⊕_ weight dot times units dots rowsOfWords wordOf wordsOfRows laid firstOne unevenWith firstUneven pick fitAll sizeQuestion countQuestion actionQuestions listQuestions xBits zBits pairing turn followed product pairAlike symplectic identityPlus columns reduced rank rowReduceWithTransform residue reduction basis transform timesTransposed core form draws search budgeted complement symmetricWith isAlternating unitLower validate verifiesBordered checkedList borderedList splitAt withPartner fromFirst symplecticSimplex peeled borderedFamily besideBasis firstNonzero nextTransvection recorded greedyList greedyReply coreSearch minimalReply readsTwo gateQuestions sequenceQuestions sequenceTurns gatesReply sheet gate turnVector littleEndian part number qubitCount entryCount entry partSize entryPasses entriesPass fileQuestions decimalIn decimal lettersFrom letters load spelled line fileLine wordsOfBytes entryAction entryLine entryLines fileLines printout
+unfolding table answer zip zipWith flatten odd bit _⊕_ weight dot times units dots rowsOfWords wordOf wordsOfRows laid firstOne unevenWith firstUneven pick fitAll sizeQuestion countQuestion actionQuestions listQuestions xBits zBits pairing turn followed product pairAlike symplectic identityPlus columns reduced rank rowReduceWithTransform residue reduction basis transform timesTransposed core form draws search budgeted complement symmetricWith isAlternating unitLower validate verifiesBordered checkedList borderedList splitAt withPartner fromFirst symplecticSimplex peeled borderedFamily besideBasis firstNonzero nextTransvection recorded greedyList greedyReply coreSearch minimalReply readsTwo gateQuestions sequenceQuestions sequenceTurns gatesReply sheet gate turnVector littleEndian part number qubitCount entryCount entry partSize entryPasses entriesPass fileQuestions decimalIn decimal lettersFrom letters touchedFrom touched load spelled line fileLine wordsOfBytes entryAction entryLine entryLines fileLines printout
 starred = refl

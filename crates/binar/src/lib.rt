@@ -2,6 +2,7 @@
 // In the source: the crate binar, whose bit rows these stand for.
 ghost use mathlib.Core.Path.{_≡_};
 ghost use Prim.Native.Nat.{_+_, _-_, _*_, _/_, _%_, _^_, _<_};
+ghost use lib.Bits.{bitOr};
 ghost use lib.Dec.{eqb, ltb};
 ghost use Rattle.binar.specs.Bits.{_⊕_, bit as bitOf, dot as dotOf, weight as weightOf};
 ghost use Rattle.binar.specs.Rows.{val, width, rowBound, unit as unitOf, lowest as lowestOf};
@@ -55,6 +56,15 @@ pub fn sum(a: Row, b: Row) -> Row
 {
     Row {
         word: a.word ^ b.word,
+    }
+}
+
+// The columns in which either row has a one.
+pub fn or(a: Row, b: Row) -> Row
+    ensures { λ r. ⌜ val r ≡ bitOr (val a) (val b) ⌝ }
+{
+    Row {
+        word: a.word | b.word,
     }
 }
 

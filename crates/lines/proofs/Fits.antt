@@ -7,7 +7,6 @@ use native.Mathlib.Nat.{mul-le-mul-left, mul-le-mul-right}
 use native.Mathlib.Omega.{arith}
 use lib.ListN.{length, take, length-append, length-take}
 use lib.Seq.{take-all}
-use Rattle.blocks.specs.Matrices.{All}
 use Rattle.blocks.specs.Words.{rowsOfWords}
 use Rattle.blocks.proofs.Values.{rows-count}
 use Rattle.symplectic.specs.declared.Figures.{Figures}
@@ -18,7 +17,8 @@ use Rattle.lines.specs.declared.Name.{Name}
 use Rattle.lines.specs.declared.Name.the-variants.{Min, Greedy}
 use Rattle.lines.specs.Bytes.{lineRoom, nameBytes}
 use Rattle.lines.proofs.Decimals.{decimal-length}
-use Rattle.lines.proofs.Spelling.{spelled-length, load-le}
+use Rattle.lines.proofs.Spelling.{spelled-length}
+use Rattle.lines.proofs.Loads.{load-le}
 
 -- the longest list: a greedy one of the most qubits
 abbrev pub mostVectors : ℕ
@@ -40,10 +40,8 @@ module _ (n : ℕ) (vs : List ℕ) (few : n ≤ maxQubits) (short : length vs �
       let bound : suc n ≤ suc maxQubits = omega arith in
       omega (arith, spelled-length n vs, mul-le-mul-left (length vs) bound, mul-le-mul-right (suc maxQubits) short)
 
-  load-short : All (λ v. v < 2 ^ (n + n)) vs → load vs < 2 ^ 64
-  load-short a =
-      let bound : n + n ≤ maxQubits + maxQubits = omega arith in
-      omega (arith, load-le (n + n) vs a, mul-le-mul-left (length vs) bound)
+  load-short : load n vs < 2 ^ 64
+  load-short = omega (arith, load-le n vs, mul-le-mul-left (length vs) few)
 
 -- ---- the line of a refused file
 
@@ -65,14 +63,14 @@ module _ (n i : ℕ) (name : List ℕ) (r : Reply) (few : n ≤ maxQubits) (entr
   vectors-short : length vectors ≤ mostVectors
   vectors-short = omega (arith, length-take (r .figures .count) (rowsOfWords n (r .words)), rows-count n (r .words))
 
-  line-fits : All (λ v. v < 2 ^ (n + n)) vectors → length (line n i name r) ≤ lineRoom
+  line-fits : length (line n i name r) ≤ lineRoom
   unfolding line
-  line-fits below =
+  line-fits =
       let a0 = decimal i in
       let a1 = a0 ++ (space ∷ name) in
       let a2 = a1 ++ field (r .figures .number) in
       let a3 = a2 ++ field (r .figures .count) in
-      let a4 = a3 ++ field (load vectors) in
+      let a4 = a3 ++ field (load n vectors) in
       let a5 = a4 ++ field (r .figures .looks) in
       let a6 = a5 ++ spelled n vectors in
       omega (
@@ -80,29 +78,28 @@ module _ (n i : ℕ) (name : List ℕ) (r : Reply) (few : n ≤ maxQubits) (entr
         length-append a6 (newline ∷ []),
         length-append a5 (spelled n vectors),
         length-append a4 (field (r .figures .looks)),
-        length-append a3 (field (load vectors)),
+        length-append a3 (field (load n vectors)),
         length-append a2 (field (r .figures .count)),
         length-append a1 (field (r .figures .number)),
         length-append a0 (space ∷ name),
         decimal-short i entry,
         decimal-short (r .figures .number) refusal,
         decimal-short (r .figures .count) counted,
-        decimal-short (load vectors) (load-short n vectors few vectors-short below),
+        decimal-short (load n vectors) (load-short n vectors few vectors-short),
         decimal-short (r .figures .looks) looked,
         spelled-short n vectors few vectors-short,
       )
 
-  pub line-whole : All (λ v. v < 2 ^ (n + n)) (take (r .figures .count) (rowsOfWords n (r .words))) → take lineRoom (line n i name r) ≡ line n i name r
-  line-whole below = take-all lineRoom (line n i name r) (line-fits below)
+  pub line-whole : take lineRoom (line n i name r) ≡ line n i name r
+  line-whole = take-all lineRoom (line n i name r) line-fits
 
 -- by the figures that a call answers and the words that it leaves
 module _ (n i : ℕ) (which : Name) (t : Figures) (words : List ℕ) (few : n ≤ maxQubits) (entry : i < 2 ^ 64) (reply : Reply) where
-  pub line-figures : (t .number < 2 ^ 64) × (t .count < 2 ^ 64) × (t .looks < 2 ^ 64) → length words ≤ mostVectors
-      → All (λ v. v < 2 ^ (n + n)) (take (reply .figures .count) (rowsOfWords n (reply .words))) → t ≡ reply .figures → words ≡ reply .words
+  pub line-figures : (t .number < 2 ^ 64) × (t .count < 2 ^ 64) × (t .looks < 2 ^ 64) → length words ≤ mostVectors → t ≡ reply .figures → words ≡ reply .words
       → take lineRoom (line n i (nameBytes which) (record { figures = t; words = words })) ≡ line n i (nameBytes which) reply
-  line-figures bounds short below e d =
+  line-figures bounds short e d =
       ap (λ (r : Reply). take lineRoom (line n i (nameBytes which) r)) same
-      ∙ line-whole n i (nameBytes which) reply few entry (name-length which) (rw e at (bounds .0)) (rw e at (bounds .1)) (rw e at (bounds .2)) (rw d at short) below
+      ∙ line-whole n i (nameBytes which) reply few entry (name-length which) (rw e at (bounds .0)) (rw e at (bounds .1)) (rw e at (bounds .2)) (rw d at short)
     where
       same : _≡_ {A = Reply} (record { figures = t; words = words }) reply
       same = ap₂ (λ (f : Figures) (w : List ℕ). record { figures = f; words = w }) e d

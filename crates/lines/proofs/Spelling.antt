@@ -1,4 +1,4 @@
--- Letters and vectors by their place in a list, how many bytes they take, and the load of a list from a place on.
+-- Letters and vectors by their place in a list, and how many bytes they take.
 -- Assumes nothing.
 use mathlib.Core.Path.{_≡_, refl, sym, ap, _∙_}
 use mathlib.Core.List.{List, [], _∷_, _++_, append-nil, append-assoc}
@@ -6,14 +6,11 @@ use Prim.Native.Nat.{ℕ, zero, suc, _+_, _*_, _/_, _^_, _≤_, _<_}
 use native.Mathlib.Nat.{le-of-suc-le-suc, not-suc-le-zero, zero-add, add-zero, add-suc, suc-add, suc-mul}
 use native.Mathlib.Numerals.{add-one}
 use native.Mathlib.Omega.{arith}
-use lib.Count.{ones-le}
-use lib.ListN.{length, getD, take, drop, length-append}
-use lib.Seq.{take-suc, drop-cons}
-use Rattle.binar.specs.Bits.{bit, weight}
+use lib.ListN.{length, getD, take, length-append}
+use lib.Seq.{take-suc}
+use Rattle.binar.specs.Bits.{bit}
 use Rattle.binar.proofs.Digits.{bit-down}
-use Rattle.binar.proofs.Dots.{weight-ones}
-use Rattle.blocks.specs.Matrices.{All}
-use Rattle.lines.specs.Lines.{letter, lettersFrom, letters, load, space, spelled}
+use Rattle.lines.specs.Lines.{letter, lettersFrom, letters, space, spelled}
 
 -- ---- letters
 
@@ -57,17 +54,3 @@ unfolding spelled
 spelled-length n [] = omega arith
 spelled-length n (v ∷ vs) =
     omega (arith, length-append (letters n v) (spelled n vs), letters-length n v, spelled-length n vs, suc-mul (length vs) (suc n))
-
--- ---- the load
-
-pub load-next : (i : ℕ) (l : List ℕ) → i < length l → load (drop i l) ≡ weight (getD l i 0) + load (drop (i + 1) l)
-unfolding load
-load-next i l h = ap load (drop-cons l i 0 h) ∙ ap (λ (j : ℕ). weight (getD l i 0) + load (drop j l)) (sym (add-one i))
-
-pub weight-le : (k v : ℕ) → v < 2 ^ k → weight v ≤ k
-weight-le k v h = omega (arith, weight-ones v, ones-le k v h)
-
-pub load-le : (k : ℕ) (vs : List ℕ) → All (λ v. v < 2 ^ k) vs → load vs ≤ length vs * k
-unfolding load
-load-le k [] a = omega arith
-load-le k (v ∷ vs) a = omega (arith, weight-le k v (a .0), load-le k vs (a .1), suc-mul (length vs) k)

@@ -1,11 +1,11 @@
 -- A line of the printout, byte by byte.
 -- Assumes nothing.
-use mathlib.Core.Bool.{Bool, true, false, cond}
+use mathlib.Core.Bool.{Bool, true, false, cond, _||_}
 use mathlib.Core.List.{List, [], _∷_, _++_}
 use Prim.Native.Nat.{ℕ, zero, suc, _+_, _/_, _%_}
 use lib.Dec.{ltb}
 use lib.ListN.{take}
-use Rattle.binar.specs.Bits.{bit, weight}
+use Rattle.binar.specs.Bits.{digit, bit}
 use Rattle.blocks.specs.Words.{rowsOfWords}
 use Rattle.symplectic.specs.Replies.{Reply}
 
@@ -33,10 +33,19 @@ lettersFrom n v (suc k) q = letter (bit q v) (bit (n + q) v) ∷ lettersFrom n v
 unfoldable pub letters : ℕ → ℕ → List ℕ
 letters n v = lettersFrom n v n 0
 
--- load: the count of ones in the listed vectors
-unfoldable pub load : List ℕ → ℕ
-load [] = 0
-load (v ∷ vs) = weight v + load vs
+-- k qubits of a vector of n from qubit q on: how many have x or z set
+unfoldable pub touchedFrom : ℕ → ℕ → ℕ → ℕ → ℕ
+touchedFrom n v zero q = 0
+touchedFrom n v (suc k) q = digit (bit q v || bit (n + q) v) + touchedFrom n v k (suc q)
+
+-- the number of qubits with x or z set: those that the turn of a vector touches; a Y counts once
+unfoldable pub touched : ℕ → ℕ → ℕ
+touched n v = touchedFrom n v n 0
+
+-- load: the number of qubits with x or z set, summed over the list (document 02, item 1, in the place of document 01's count of ones)
+unfoldable pub load : ℕ → List ℕ → ℕ
+load n [] = 0
+load n (v ∷ vs) = touched n v + load n vs
 
 abbrev pub space : ℕ
 space = 32
@@ -68,7 +77,7 @@ unfoldable pub line : ℕ → ℕ → List ℕ → Reply → List ℕ
 line n i name reply =
     let figures = reply .figures in
     let vs = take (figures .count) (rowsOfWords n (reply .words)) in
-    decimal i ++ (space ∷ name) ++ field (figures .number) ++ field (figures .count) ++ field (load vs) ++ field (figures .looks) ++ spelled n vs ++ (newline ∷ [])
+    decimal i ++ (space ∷ name) ++ field (figures .number) ++ field (figures .count) ++ field (load n vs) ++ field (figures .looks) ++ spelled n vs ++ (newline ∷ [])
 
 -- a refused file prints only `file` and the number
 unfoldable pub fileLine : ℕ → List ℕ

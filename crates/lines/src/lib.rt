@@ -8,7 +8,7 @@ ghost use Prim.Native.Nat.{_+_};
 ghost use lib.ListN.{length, take};
 ghost use Rattle.binar.specs.Rows.{val};
 ghost use Rattle.blocks.specs.Words.{rowsOfWords};
-ghost use Rattle.lines.specs.Lines.{decimal as decimalOf, letter as letterOf, letters as lettersOf, load as loadOf, space, spelled as spelledOf, field as fieldOf, line as lineOf, fileLine};
+ghost use Rattle.lines.specs.Lines.{decimal as decimalOf, letter as letterOf, letters as lettersOf, touched as touchedOf, load as loadOf, space, spelled as spelledOf, field as fieldOf, line as lineOf, fileLine};
 ghost use Rattle.lines.specs.Bytes.{lineRoom, bytesOf, laidBytes, nameBytes};
 ghost use Rattle.lines.specs.inner.Tallies.{tallied};
 
@@ -139,14 +139,22 @@ fn spelled(l: Line, n: usize, words: &[u64]) -> Line
     out
 }
 
-// The count of ones in the vectors of n qubits.
+// How many of its n qubits a vector touches: the ones of x OR z.
+fn touched(n: usize, v: Row) -> u64
+    ensures { λ r. ⌜ r ≡ touchedOf n (val v) ⌝ }
+{
+    let either = binar::or(v, binar::shift_down(v, n));
+    binar::weight(binar::low(either, n))
+}
+
+// The qubits that the vectors of n qubits touch, summed over them.
 fn load(n: usize, words: &[u64]) -> Tally
-    ensures { λ r. ⌜ tallied r ≡ loadOf (rowsOfWords n (now (words .entry))) ⌝ }
+    ensures { λ r. ⌜ tallied r ≡ loadOf n (rowsOfWords n (now (words .entry))) ⌝ }
 {
     let mut tens: u64 = 0;
     let mut unit: u64 = 0;
     for i in 0..words.len() {
-        let sum = unit + binar::weight(binar::of_word(words[i]));
+        let sum = unit + touched(n, binar::of_word(words[i]));
         tens += sum / 10;
         unit = sum % 10;
     }

@@ -19,7 +19,7 @@ use Rattle.printout.specs.declared.EntryAction.the-variants.{Rows, Refus
 use Rattle.printout.specs.declared.EntryRows.{EntryRows}
 use Rattle.printout.specs.Printout.{listWords, entryAction, unlessRefusedAction, callReply, entryLine}
 use Rattle.printout.specs.inner.Held.{HeldBy, Held}
-use Rattle.printout.proofs.Called.{call-fits, call-miscounted}
+use Rattle.printout.proofs.Called.{call-miscounted}
 use Rattle.printout.proofs.Lent.{lent-figures, left-count, left-words}
 
 -- ---- by what is held of the action of entry i
@@ -76,4 +76,4 @@ line-left n i which rows few entry t left bounds kept told is =
     let k = 4 * n + 2 in
     let fits : k ≤ mostVectors = omega arith in
     line-figures n i which t (take k (left ++ drop k (replicate mostVectors 0))) few entry (callReply which n rows (listWords n)) bounds (omega (arith, left-count k mostVectors fits left kept))
-    (call-fits which n rows (listWords n)) (lent-figures k mostVectors fits (callReply which n rows) t told) (left-words k mostVectors fits left kept (callReply which n rows) is)
+    (lent-figures k mostVectors fits (callReply which n rows) t told) (left-words k mostVectors fits left kept (callReply which n rows) is)

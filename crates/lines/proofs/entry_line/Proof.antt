@@ -55,9 +55,9 @@ returns c =
     let f = bytesOf (c .before .before .before .before .front .result) in
     let h = bytesOf (c .before .before .numbers .result) in
     let l = bytesOf (c .before .spelled .result) in
-    let y = x ++ field (figures .number) ++ field (figures .count) ++ field (load vs) ++ field (figures .looks) in
-    let p : h ≡ take lineRoom y = cut-four lineRoom x f h (field (figures .number)) (field (figures .count)) (field (load vs)) (field (figures .looks)) (c .before .before .before .before .front .ensures)
-    (known f h (figures .number) (figures .count) (tallied (c .before .before .before .load .result)) (load vs) (figures .looks) (c .before .before .before .load .ensures ∙ ap load same) (c .before .before .numbers .ensures)) in
+    let y = x ++ field (figures .number) ++ field (figures .count) ++ field (load (s .n) vs) ++ field (figures .looks) in
+    let p : h ≡ take lineRoom y = cut-four lineRoom x f h (field (figures .number)) (field (figures .count)) (field (load (s .n) vs)) (field (figures .looks)) (c .before .before .before .before .front .ensures)
+    (known f h (figures .number) (figures .count) (tallied (c .before .before .before .load .result)) (load (s .n) vs) (figures .looks) (c .before .before .before .load .ensures ∙ ap (load (s .n)) same) (c .before .before .numbers .ensures)) in
     let q : l ≡ take lineRoom (y ++ spelled (s .n) vs) = cut-next lineRoom y h l (spelled (s .n) vs) p (c .before .spelled .ensures ∙ ap (λ (v : List ℕ). take lineRoom (h ++ spelled (s .n) v)) same) in
     cut-next lineRoom (y ++ spelled (s .n) vs) l (bytesOf (c .push .result)) (newline ∷ []) q (c .push .ensures)
 

@@ -23,7 +23,7 @@ returns c =
     let s = c .before .before .args in
     let reply = refused (s .number) 0 [] in
     c .entry-line .ensures
-    ∙ line-figures (s .n) (s .i) (s .which) (reply .figures) [] (search needs) (search needs) reply (search needs) (omega arith) tt refl refl
+    ∙ line-figures (s .n) (s .i) (s .which) (reply .figures) [] (search needs) (search needs) reply (search needs) (omega arith) refl refl
 
 pub refusal-line-spec : {M : Type 1} → statement M
 refusal-line-spec =
