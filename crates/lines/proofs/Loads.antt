@@ -1,4 +1,4 @@
--- The qubits that a vector touches are the ones of x OR z, and no more than it has; the load of a list from a place on.
+-- The qubits that a vector touches are the ones of x OR z, and no more than n; the load of a list from a place on.
 -- Assumes nothing.
 use mathlib.Core.Path.{_≡_, sym, ap, ap₂, _∙_}
 use mathlib.Core.Bool.{_||_}
@@ -44,7 +44,7 @@ module _ (n v : ℕ) where
   unfolding touched
   touched-le = from-le n 0
 
-  -- nor more than it has columns
+  -- nor than it has columns
   pub touched-within : (k : ℕ) → v < 2 ^ k → touched n v ≤ k
   touched-within k h =
       let down : v / 2 ^ n < 2 ^ k = omega (arith, shr-le v n) in
