@@ -4,15 +4,15 @@ use mathlib.Core.Path.{_≡_, sym, ap, ap₂, _∙_}
 use mathlib.Core.Bool.{_||_}
 use mathlib.Core.List.{List, [], _∷_}
 use Prim.Native.Nat.{ℕ, zero, suc, _+_, _*_, _/_, _%_, _^_, _≤_, _<_}
-use native.Mathlib.Nat.{div-one, mod-one, mod-le, suc-mul}
+use native.Mathlib.Nat.{div-one, mod-one, mod-lt, mod-le, suc-mul}
 use native.Mathlib.Numerals.{add-one}
 use native.Mathlib.Omega.{arith}
 use lib.Bits.{bitOr, or-lt}
 use lib.ListN.{length, getD, drop}
-use lib.Pow.{shr-le}
+use lib.Pow.{pow-pos, shr-le}
 use lib.Seq.{drop-cons}
 use Rattle.binar.specs.Bits.{digit, bit, weight}
-use Rattle.binar.proofs.Digits.{digit-lt, bit-down, bit-or}
+use Rattle.binar.proofs.Digits.{bit-down, bit-or}
 use Rattle.binar.proofs.Dots.{weight-zero, weight-le, weight-from}
 use Rattle.lines.specs.Lines.{touchedFrom, touched, load}
 
@@ -31,24 +31,22 @@ module _ (n v : ℕ) where
   from-weight zero q = ap weight (mod-one (either / 2 ^ q)) ∙ weight-zero
   from-weight (suc k) q = weight-from q k either ∙ ap₂ (λ b t. digit b + t) (touches q) (from-weight k (suc q))
 
-  from-le : (k q : ℕ) → touchedFrom n v k q ≤ k
-  unfolding touchedFrom
-  from-le zero q = omega arith
-  from-le (suc k) q = omega (arith, digit-lt (bit q v || bit (n + q) v), from-le k (suc q))
-
   pub touched-weight : weight (bitOr v (v / 2 ^ n) % 2 ^ n) ≡ touched n v
   unfolding touched
   touched-weight = ap (λ t. weight (t % 2 ^ n)) (sym (div-one either)) ∙ from-weight n 0
 
-  pub touched-le : touched n v ≤ n
-  unfolding touched
-  touched-le = from-le n 0
+  at-most : (k : ℕ) → either % 2 ^ n < 2 ^ k → touched n v ≤ k
+  at-most k h = omega (arith, touched-weight, weight-le k (either % 2 ^ n) h)
 
-  -- nor than it has columns
+  -- no more qubits than n
+  touched-le : touched n v ≤ n
+  touched-le = at-most n (mod-lt either (pow-pos n))
+
+  -- no more than v has columns
   pub touched-within : (k : ℕ) → v < 2 ^ k → touched n v ≤ k
   touched-within k h =
       let down : v / 2 ^ n < 2 ^ k = omega (arith, shr-le v n) in
-      omega (arith, touched-weight, weight-le k (either % 2 ^ n) (omega (arith, mod-le either (2 ^ n), or-lt k v (v / 2 ^ n) h down)))
+      at-most k (omega (arith, mod-le either (2 ^ n), or-lt k v (v / 2 ^ n) h down))
 
 -- ---- a list
 
