@@ -1,12 +1,11 @@
 // Blocks of rows, by value: room for one row more than a row has columns, and a count.
 // In the source: the crate binar, whose bit matrices these stand for.
 use binar::Row;
-use binar::WIDTH;
 ghost use mathlib.Core.Path.{_≡_};
-ghost use mathlib.Core.List.{[], _∷_, _++_};
-ghost use Prim.Native.Nat.{_+_, _<_, min};
+ghost use mathlib.Core.List.{[], _∷_, _++_, map};
+ghost use Prim.Native.Nat.{_+_, _%_, _<_, min};
 ghost use lib.ListN.{take, length};
-ghost use Rattle.binar.specs.Rows.{val, width};
+ghost use Rattle.binar.specs.Rows.{val, rowBound};
 ghost use Rattle.blocks.specs.Blocks.{room, rowsOf};
 ghost use Rattle.blocks.specs.Matrices.{times as timesOf, matmul, units};
 ghost use Rattle.blocks.specs.Words.{rowsOfWords, wordOf, laid};
@@ -57,10 +56,11 @@ pub fn push(b: Block, v: Row) -> Block
     }
 }
 
+// The unit rows, m of them, each as far as a row has columns.
 pub fn identity(m: usize) -> Block
-    ensures { λ r. ⌜ rowsOf r ≡ units (min m width) ⌝ }
+    ensures { λ r. ⌜ rowsOf r ≡ map (λ u. u % rowBound) (units (min m room)) ⌝ }
 {
-    let k = lesser(m, WIDTH);
+    let k = lesser(m, ROOM);
     let mut n = empty();
     for i in 0..k {
         n.rows[i] = binar::unit(i);

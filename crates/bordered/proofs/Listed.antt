@@ -17,7 +17,7 @@ use Rattle.symplectic.specs.Actions.{maxQubits}
 use Rattle.symplectic.specs.Picks.{when}
 use Rattle.reduction.specs.Residue.{basis, core, residue, form}
 use Rattle.reduction.proofs.Core.{core-length, basis-rank, residue-length}
-use Rattle.reduction.proofs.Reduced.{rank-length}
+use Rattle.reduction.proofs.Transform.{rank-length}
 use Rattle.triangular.specs.Readings.{coreOf}
 use Rattle.triangular.proofs.Cores.{core-rows}
 use Rattle.family.specs.declared.Family.{Family}

@@ -13,10 +13,7 @@ use Rattle.linear.specs.VectorSpace.{VectorSpace, scale}
 use Rattle.linear.specs.Span.{InSpan}
 use Rattle.linear.proofs.Sums.{cancel-right}
 use Rattle.linear.proofs.Exchange.{span-add, span-scale, span-members, span-trans}
-use Rattle.reduction.specs.Columns.{Pulled, unpulled, pulled, behind, putIf, put, pullIf, pull, Halves, clear, columnBy, column, columns}
-
-abbrev pub rows : {A : Type 0} → Halves A → List A
-rows h = h .up ++ h .down
+use Rattle.reduction.specs.Columns.{Pulled, unpulled, pulled, behind, putIf, put, pullIf, pull, Echelon, rows, clear, columnBy, column, columns}
 
 -- ---- what is pulled
 
@@ -80,10 +77,10 @@ module _ (S : VectorSpace) where
 
   infixl 60 _⊕_
   -- each row lies in the span of the rows after a column has been cleared
-  kept : (has : Car → Bool) (h : Halves Car) (out : Pulled Car) → ((P : Car → Type 0) → Pull has P (h .down) out)
-      → All (InSpan S (rows (columnBy o _⊕_ has h out))) (rows h)
-  kept has h unpulled r = span-members S (rows h)
-  kept has h (pulled x rest) r =
+  kept : (c : ℕ) (has : Car → Bool) (h : Echelon Car) (out : Pulled Car) → ((P : Car → Type 0) → Pull has P (h .down) out)
+      → All (InSpan S (rows (columnBy o _⊕_ c has h out))) (rows h)
+  kept c has h unpulled r = span-members S (rows h)
+  kept c has h (pulled x rest) r =
       All·append In (h .up) (h .down) (All·map un (h .up) (All·of-map cl In (h .up) ups))
       (r In .2 in-x (All·map un rest (All·of-map cl In rest downs)))
     where
@@ -118,10 +115,10 @@ module _ (S : VectorSpace) where
   abbrev pub Closed : (Car → Type 0) → Type 0
   Closed Q = (x y : Car) (b : Bool) → Q x → Q y → Q (y ⊕ scale S b x)
 
-  closed : (Q : Car → Type 0) → Closed Q → (has : Car → Bool) (h : Halves Car) (out : Pulled Car) → Pull has Q (h .down) out
-      → All Q (rows h) → All Q (rows (columnBy o _⊕_ has h out))
-  closed Q q has h unpulled r a = a
-  closed Q q has h (pulled x rest) r a =
+  closed : (Q : Car → Type 0) → Closed Q → (c : ℕ) (has : Car → Bool) (h : Echelon Car) (out : Pulled Car) → Pull has Q (h .down) out
+      → All Q (rows h) → All Q (rows (columnBy o _⊕_ c has h out))
+  closed Q q c has h unpulled r a = a
+  closed Q q c has h (pulled x rest) r a =
       let k = r .1 (All·right Q (h .up) (h .down) a) in
       let cl : (y : Car) → Q y → Q (clear o _⊕_ has x y) = λ y e. q x y (has y) (k .0) e in
       All·append Q (map (clear o _⊕_ has x) (h .up) ++ (x ∷ [])) (map (clear o _⊕_ has x) rest)
@@ -132,30 +129,30 @@ module _ (S : VectorSpace) where
   -- ---- all columns
 
   module _ (has : ℕ → Car → Bool) where
-    abbrev step : ℕ → Halves Car → Halves Car
-    step c h = column o _⊕_ (has c) h
+    abbrev step : ℕ → Echelon Car → Echelon Car
+    step c h = column o _⊕_ c (has c) h
 
     -- each row at the start is a sum of rows at the end
-    pub keeps-columns : (k c : ℕ) (h : Halves Car) → All (InSpan S (rows (columns o _⊕_ has k c h))) (rows h)
+    pub keeps-columns : (k c : ℕ) (h : Echelon Car) → All (InSpan S (rows (columns o _⊕_ has k c h))) (rows h)
     unfolding columns
     keeps-columns zero c h = span-members S (rows h)
     keeps-columns (suc k) c h =
         All·map (λ y m. span-trans S (rows (step c h)) (rows (columns o _⊕_ has k (suc c) (step c h))) y (keeps-columns k (suc c) (step c h)) m) (rows h)
-        (kept (has c) h (pull (has c) (h .down)) (λ P. pull-right (has c) P (h .down)))
+        (kept c (has c) h (pull (has c) (h .down)) (λ P. pull-right (has c) P (h .down)))
 
     -- what sums keep holds of every row at the end
-    pub closed-columns : (Q : Car → Type 0) → Closed Q → (k c : ℕ) (h : Halves Car) → All Q (rows h) → All Q (rows (columns o _⊕_ has k c h))
+    pub closed-columns : (Q : Car → Type 0) → Closed Q → (k c : ℕ) (h : Echelon Car) → All Q (rows h) → All Q (rows (columns o _⊕_ has k c h))
     unfolding columns
     closed-columns Q q zero c h a = a
     closed-columns Q q (suc k) c h a =
-        closed-columns Q q k (suc c) (step c h) (closed Q q (has c) h (pull (has c) (h .down)) (pull-right (has c) Q (h .down)) a)
+        closed-columns Q q k (suc c) (step c h) (closed Q q c (has c) h (pull (has c) (h .down)) (pull-right (has c) Q (h .down)) a)
 
 -- ---- the number of rows
 
 module _ {A : Type 0} (o : A) (add : A → A → A) where
-  size-column : (has : A → Bool) (h : Halves A) (out : Pulled A) → Sized (length (h .down)) out → length (rows (columnBy o add has h out)) ≡ length (rows h)
-  size-column has h unpulled s = refl
-  size-column has h (pulled x rest) s =
+  size-column : (k : ℕ) (has : A → Bool) (h : Echelon A) (out : Pulled A) → Sized (length (h .down)) out → length (rows (columnBy o add k has h out)) ≡ length (rows h)
+  size-column k has h unpulled s = refl
+  size-column k has h (pulled x rest) s =
       let cl = clear o add has x in
       let a = length-append (map cl (h .up) ++ (x ∷ [])) (map cl rest) in
       let b = length-append (map cl (h .up)) (x ∷ []) in
@@ -164,16 +161,16 @@ module _ {A : Type 0} (o : A) (add : A → A → A) where
       let e = length-map rest cl in
       omega arith
 
-  pub length-columns : (has : ℕ → A → Bool) (k c : ℕ) (h : Halves A) → length (rows (columns o add has k c h)) ≡ length (rows h)
+  pub length-columns : (has : ℕ → A → Bool) (k c : ℕ) (h : Echelon A) → length (rows (columns o add has k c h)) ≡ length (rows h)
   unfolding columns
   length-columns has zero c h = refl
   length-columns has (suc k) c h =
-      length-columns has k (suc c) (column o add (has c) h) ∙ size-column (has c) h (pull (has c) (h .down)) (pull-size (has c) (h .down))
+      length-columns has k (suc c) (column o add c (has c) h) ∙ size-column c (has c) h (pull (has c) (h .down)) (pull-size (has c) (h .down))
 
 -- ---- mapped rows are reduced by the same steps
 
-abbrev pub mapHalves : {A B : Type 0} → (A → B) → Halves A → Halves B
-mapHalves f h = record { up = map f (h .up); down = map f (h .down) }
+abbrev pub mapRows : {A B : Type 0} → (A → B) → Echelon A → Echelon B
+mapRows f h = record { up = map f (h .up); down = map f (h .down); pivots = h .pivots }
 
 abbrev mapPulled : {A B : Type 0} → (A → B) → Pulled A → Pulled B
 mapPulled f unpulled = unpulled
@@ -206,18 +203,18 @@ module _ {A B : Type 0} (f : A → B) where
         sel true = refl
         sel false = sym f-o
 
-    column-map : (has : B → Bool) (h : Halves A) (out : Pulled A)
-        → columnBy o′ add′ has (mapHalves f h) (mapPulled f out) ≡ mapHalves f (columnBy o add (λ a. has (f a)) h out)
-    column-map has h unpulled = refl
-    column-map has h (pulled x rest) =
-        ap₂ (λ u d. record { up = u; down = d })
+    column-map : (c : ℕ) (has : B → Bool) (h : Echelon A) (out : Pulled A)
+        → columnBy o′ add′ c has (mapRows f h) (mapPulled f out) ≡ mapRows f (columnBy o add c (λ a. has (f a)) h out)
+    column-map c has h unpulled = refl
+    column-map c has h (pulled x rest) =
+        ap₂ (λ u d. record { up = u; down = d; pivots = h .pivots ++ (c ∷ []) })
         (ap (λ l. l ++ (f x ∷ [])) (clear-map has x (h .up)) ∙ sym (map-append f (map (clear o add (λ a. has (f a)) x) (h .up)) (x ∷ []))) (clear-map has x rest)
 
-    pub columns-map : (has : ℕ → B → Bool) (k c : ℕ) (h : Halves A)
-        → columns o′ add′ has k c (mapHalves f h) ≡ mapHalves f (columns o add (λ i a. has i (f a)) k c h)
+    pub columns-map : (has : ℕ → B → Bool) (k c : ℕ) (h : Echelon A)
+        → columns o′ add′ has k c (mapRows f h) ≡ mapRows f (columns o add (λ i a. has i (f a)) k c h)
     unfolding columns
     columns-map has zero c h = refl
     columns-map has (suc k) c h =
-        ap (λ t. columns o′ add′ has k (suc c) (columnBy o′ add′ (has c) (mapHalves f h) t)) (pull-map (has c) (h .down))
-        ∙ ap (columns o′ add′ has k (suc c)) (column-map (has c) h (pull (λ a. has c (f a)) (h .down)))
-        ∙ columns-map has k (suc c) (column o add (λ a. has c (f a)) h)
+        ap (λ t. columns o′ add′ has k (suc c) (columnBy o′ add′ c (has c) (mapRows f h) t)) (pull-map (has c) (h .down))
+        ∙ ap (columns o′ add′ has k (suc c)) (column-map c (has c) h (pull (λ a. has c (f a)) (h .down)))
+        ∙ columns-map has k (suc c) (column o add c (λ a. has c (f a)) h)

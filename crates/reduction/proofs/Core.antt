@@ -24,11 +24,12 @@ use Rattle.symplectic.specs.inner.Vectors.{swapHalves}
 use Rattle.symplectic.proofs.Lists.{map-eq, eq-map}
 use Rattle.symplectic.proofs.Pairings.{swap-sum, swap-swap, swap-over, swap-low, swap-high, pairing-swap}
 use Rattle.symplectic.proofs.Layers.{added, added-sum, added-lt, added-over, identityPlus-is}
-use Rattle.reduction.specs.Columns.{reduced, rank}
+use Rattle.reduction.specs.Columns.{rowReduceWithTransform, rank}
 use Rattle.reduction.specs.Residue.{residue, reduction, basis, transform, core, form}
+use Rattle.reduction.specs.inner.Plain.{reduced}
 use Rattle.reduction.proofs.Echelon.{Rref}
-use Rattle.reduction.proofs.Reduced.{pivots, reduced-rref, reduced-indep, reduced-lt, reduced-out, rank-width}
-use Rattle.reduction.proofs.Transform.{basis-row-is, basis-transform-lt, basis-reduced}
+use Rattle.reduction.proofs.Reduced.{reduced-rref, reduced-indep, reduced-lt, reduced-out}
+use Rattle.reduction.proofs.Transform.{basis-row-is, basis-transform-lt, basis-reduced, pivots-reduced, rank-up, rank-width}
 use Rattle.reduction.proofs.Forms.{form-transposed, transposed-length}
 
 -- ---- of any action
@@ -46,14 +47,17 @@ unfolding basis reduction
 basis-plain n F = basis-reduced (n + n) (residue n F)
 
 pub basis-rank : (n : ℕ) (F : List ℕ) → length (basis n F) ≡ rank (n + n) (residue n F)
-unfolding rank
-basis-rank n F = ap length (basis-plain n F)
+basis-rank n F = ap length (basis-plain n F) ∙ sym (rank-up (n + n) (residue n F))
 
 pub basis-indep : (n : ℕ) (F : List ℕ) → Indep 𝕎 (basis n F)
 basis-indep n F = subst (Indep 𝕎) (sym (basis-plain n F)) (reduced-indep (n + n) (residue n F))
 
-pub basis-rref : (n : ℕ) (F : List ℕ) → Rref bit (pivots (n + n) (basis n F)) (basis n F)
-basis-rref n F = subst (λ B. Rref bit (pivots (n + n) B) B) (sym (basis-plain n F)) (reduced-rref (n + n) (residue n F))
+pub basis-rref : (n : ℕ) (F : List ℕ) → Rref bit (reduction n F .pivots) (basis n F)
+unfolding reduction
+basis-rref n F =
+    let m = n + n in
+    subst (λ B. Rref bit (rowReduceWithTransform m (residue n F) .pivots) B) (sym (basis-plain n F))
+    (subst (λ ps. Rref bit ps (reduced m (residue n F) .up)) (sym (pivots-reduced m (residue n F))) (reduced-rref m (residue n F)))
 
 -- pEq is the dot of what p takes of the basis and q of the transform
 pub core-form : (n : ℕ) (F : List ℕ) (p q : ℕ) → form (core n F) p q ≡ dot (times p (basis n F)) (times q (transform n F))

@@ -1,9 +1,11 @@
--- A block with a row written, and one whose rows p and j are written over each other; one column less of a reduction.
+-- A block with a row written, and one whose rows p and j are written over each other; one pivot more and one column less of a reduction.
 -- Assumes nothing.
 use mathlib.Core.Path.{_≡_, sym, ap, _∙_, subst}
-use mathlib.Core.List.{List, zip}
+use mathlib.Core.List.{List, [], _∷_, _++_, zip}
 use Prim.Native.Nat.{ℕ, _+_, _-_, _<_}
-use lib.ListN.{length, getD, set}
+use native.Mathlib.Numerals.{add-one}
+use lib.ListN.{length, getD, set, take}
+use lib.Seq.{take-suc-set}
 use Rattle.binar.specs.declared.Row.{Row}
 use Rattle.binar.specs.Bits.{bit}
 use Rattle.binar.specs.Rows.{val}
@@ -13,7 +15,7 @@ use Rattle.blocks.specs.Blocks.{rowsOf}
 use Rattle.blocks.specs.inner.Lists.{exchanged}
 use Rattle.blocks.proofs.Values.{rows-are, rows-get, rows-set, rows-exchange, exchanged-length, exchanged-first}
 use Rattle.symplectic.specs.Picks.{addBoth}
-use Rattle.reduction.specs.Columns.{Halves, column, columns}
+use Rattle.reduction.specs.Columns.{Echelon, column, columns}
 use Rattle.reduction.specs.inner.Sweeps.{halves}
 use Rattle.reduction.proofs.Flat.{columns-next}
 
@@ -36,16 +38,21 @@ module _ (b : Block) (p j : ℕ) (h : p < length (rowsOf b)) (g : j < length (ro
   pub crossed-first : val (getD (b .rows) j blank) ≡ getD (rowsOf (crossed b p j)) p 0
   crossed-first = rows-get b j g ∙ sym (ap (λ (l : List ℕ). getD l p 0) crossed-is ∙ exchanged-first p j (rowsOf b) h g)
 
+-- a pivot written behind those before it
+pub pivot-next : (l : List ℕ) (p c : ℕ) → p < length l → take (p + 1) (set l p c) ≡ take p l ++ (c ∷ [])
+pivot-next l p c h = ap (λ k. take k (set l p c)) (add-one p) ∙ take-suc-set l p c h
+
 -- one column less is left
-pub fewer : (m c p q : ℕ) (R T R′ T′ : List ℕ) (all : Halves (ℕ × ℕ)) → c < m
-    → columns (0, 0) addBoth (λ i a. bit i (a .0)) (m - c) c (halves p (zip R T)) ≡ all
-    → halves q (zip R′ T′) ≡ column (0, 0) addBoth (λ a. bit c (a .0)) (halves p (zip R T))
-    → columns (0, 0) addBoth (λ i a. bit i (a .0)) (m - (c + 1)) (c + 1) (halves q (zip R′ T′)) ≡ all
-fewer m c p q R T R′ T′ all h e d =
-    ap (λ (x : Halves (ℕ × ℕ)). columns (0, 0) addBoth (λ i a. bit i (a .0)) (m - (c + 1)) (c + 1) x) d
-    ∙ sym (columns-next (0, 0) addBoth (λ i a. bit i (a .0)) m c (halves p (zip R T)) h) ∙ e
+pub fewer : (m c p q : ℕ) (ps qs R T R′ T′ : List ℕ) (all : Echelon (ℕ × ℕ)) → c < m
+    → columns (0, 0) addBoth (λ i a. bit i (a .0)) (m - c) c (halves p ps (zip R T)) ≡ all
+    → halves q qs (zip R′ T′) ≡ column (0, 0) addBoth c (λ a. bit c (a .0)) (halves p ps (zip R T))
+    → columns (0, 0) addBoth (λ i a. bit i (a .0)) (m - (c + 1)) (c + 1) (halves q qs (zip R′ T′)) ≡ all
+fewer m c p q ps qs R T R′ T′ all h e d =
+    ap (λ (x : Echelon (ℕ × ℕ)). columns (0, 0) addBoth (λ i a. bit i (a .0)) (m - (c + 1)) (c + 1) x) d
+    ∙ sym (columns-next (0, 0) addBoth (λ i a. bit i (a .0)) m c (halves p ps (zip R T)) h) ∙ e
 
 -- what holds of values holds where they have come to stand
-pub carried : (P : Block → Block → ℕ → Type 0) (a t a′ t′ : Block) (p p′ : ℕ) → a′ ≡ a → t′ ≡ t → p′ ≡ p → P a t p → P a′ t′ p′
-carried P a t a′ t′ p p′ ea et ep h =
-    subst (λ (x : Block). P x t′ p′) (sym ea) (subst (λ (x : Block). P a x p′) (sym et) (subst (P a t) (sym ep) h))
+pub carried : (P : Block → Block → List ℕ → ℕ → Type 0) (a t a′ t′ : Block) (ps ps′ : List ℕ) (p p′ : ℕ) → a′ ≡ a → t′ ≡ t → ps′ ≡ ps → p′ ≡ p → P a t ps p → P a′ t′ ps′ p′
+carried P a t a′ t′ ps ps′ p p′ ea et es ep h =
+    subst (λ (x : Block). P x t′ ps′ p′) (sym ea)
+    (subst (λ (x : Block). P a x ps′ p′) (sym et) (subst (λ (x : List ℕ). P a t x p′) (sym es) (subst (P a t ps) (sym ep) h)))

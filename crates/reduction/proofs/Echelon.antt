@@ -17,7 +17,7 @@ use Rattle.linear.specs.Maps.{Additive}
 use Rattle.linear.proofs.Sums.{add-zero, scale-o}
 use Rattle.linear.proofs.Instances.{𝔹}
 use Rattle.linear.proofs.Maps.{map-at}
-use Rattle.reduction.specs.Columns.{Pulled, unpulled, pulled, pull, Halves, clear, columnBy, column, columns}
+use Rattle.reduction.specs.Columns.{Pulled, unpulled, pulled, pull, Echelon, clear, columnBy, column, columns}
 use Rattle.reduction.proofs.Columns.{Pull, pull-right}
 
 -- the rows have none of the columns before c
@@ -31,9 +31,9 @@ Rref has [] (u ∷ us) = ⊥
 Rref has (p ∷ ps) [] = ⊥
 Rref has (p ∷ ps) (u ∷ us) = (has p u ≡ true) × ((k : ℕ) → k < p → has k u ≡ false) × All (λ q. (p < q) × (has q u ≡ false)) ps × Rref has ps us
 
--- the pivots, all before column c
-abbrev pub Pivots : {A : Type 0} → (ℕ → A → Bool) → ℕ → List A → Type 0
-Pivots has c us = (ps : List ℕ) × Rref has ps us × All (λ p. p < c) ps
+-- the rows above with their pivots, all before column c
+abbrev pub Above : {A : Type 0} → (ℕ → A → Bool) → ℕ → Echelon A → Type 0
+Above has c h = Rref has (h .pivots) (h .up) × All (λ p. p < c) (h .pivots)
 
 module _ (S : VectorSpace) (has : ℕ → S .Car → Bool) (has-add : (c : ℕ) → Additive S 𝔹 (has c)) where
   open VectorSpace S using (Car, add as _⊕_, o)
@@ -52,8 +52,8 @@ module _ (S : VectorSpace) (has : ℕ → S .Car → Bool) (has-add : (c : ℕ) 
 
   -- ---- the rows below
 
-  below-column : (c : ℕ) (h : Halves Car) (out : Pulled Car) → ((P : Car → Type 0) → Pull (has c) P (h .down) out) → Below has c (h .down)
-      → Below has (suc c) (columnBy o _⊕_ (has c) h out .down)
+  below-column : (c : ℕ) (h : Echelon Car) (out : Pulled Car) → ((P : Car → Type 0) → Pull (has c) P (h .down) out) → Below has c (h .down)
+      → Below has (suc c) (columnBy o _⊕_ c (has c) h out .down)
   below-column c h unpulled r z k l =
       ⊎-elim (λ e. subst (λ i. All (λ y. has i y ≡ false) (h .down)) (sym e) (r (λ _. Unit {0}))) (λ m. z k m) (eq-or-lt-of-le (le-of-suc-le-suc l))
   below-column c h (pulled x rest) r z k l = ⊎-elim here before (eq-or-lt-of-le (le-of-suc-le-suc l))
@@ -71,11 +71,11 @@ module _ (S : VectorSpace) (has : ℕ → S .Car → Bool) (has-add : (c : ℕ) 
           let w = r (λ y. has k y ≡ false) .1 (z k m) in
           All·to-map cl (λ y. has k y ≡ false) rest (All·map (λ y e. unchanged k x y (has c y) (w .0) ∙ e) rest (w .1))
 
-  pub below-columns : (k c : ℕ) (h : Halves Car) → Below has c (h .down) → Below has (c + k) (columns o _⊕_ has k c h .down)
+  pub below-columns : (k c : ℕ) (h : Echelon Car) → Below has c (h .down) → Below has (c + k) (columns o _⊕_ has k c h .down)
   unfolding columns
   below-columns zero c h z = λ i l. z i (omega arith)
   below-columns (suc k) c h z =
-      let r = below-columns k (suc c) (column o _⊕_ (has c) h) (below-column c h (pull (has c) (h .down)) (λ P. pull-right (has c) P (h .down)) z) in
+      let r = below-columns k (suc c) (column o _⊕_ c (has c) h) (below-column c h (pull (has c) (h .down)) (λ P. pull-right (has c) P (h .down)) z) in
       λ i l. r i (omega arith)
 
   -- ---- the rows above
@@ -94,23 +94,22 @@ module _ (S : VectorSpace) (has : ℕ → S .Car → Bool) (has-add : (c : ℕ) 
     rref-more ps us x c (r .3) (a .1) e z,
   )
 
-  pivots-column : (c : ℕ) (h : Halves Car) (out : Pulled Car) → ((P : Car → Type 0) → Pull (has c) P (h .down) out) → Below has c (h .down)
-      → Pivots has c (h .up) → Pivots has (suc c) (columnBy o _⊕_ (has c) h out .up)
-  pivots-column c h unpulled r z (ps, e, a) = (ps, e, All·map (λ p l. omega arith) ps a)
-  pivots-column c h (pulled x rest) r z (ps, e, a) = (
-    ps ++ (c ∷ []),
-    rref-more ps (h .up) x c e a (r (λ _. Unit {0}) .0) (λ k l. r (λ y. has k y ≡ false) .1 (z k l) .0),
-    All·append (λ p. p < suc c) ps (c ∷ []) (All·map (λ p l. omega arith) ps a) (omega arith, tt),
+  above-column : (c : ℕ) (h : Echelon Car) (out : Pulled Car) → ((P : Car → Type 0) → Pull (has c) P (h .down) out) → Below has c (h .down)
+      → Above has c h → Above has (suc c) (columnBy o _⊕_ c (has c) h out)
+  above-column c h unpulled r z (e, a) = (e, All·map (λ p l. omega arith) (h .pivots) a)
+  above-column c h (pulled x rest) r z (e, a) = (
+    rref-more (h .pivots) (h .up) x c e a (r (λ _. Unit {0}) .0) (λ k l. r (λ y. has k y ≡ false) .1 (z k l) .0),
+    All·append (λ p. p < suc c) (h .pivots) (c ∷ []) (All·map (λ p l. omega arith) (h .pivots) a) (omega arith, tt),
   )
 
-  pub columns-rref : (k c : ℕ) (h : Halves Car) → Below has c (h .down) → Pivots has c (h .up) → Pivots has (c + k) (columns o _⊕_ has k c h .up)
+  pub above-columns : (k c : ℕ) (h : Echelon Car) → Below has c (h .down) → Above has c h → Above has (c + k) (columns o _⊕_ has k c h)
   unfolding columns
-  columns-rref zero c h z (ps, e, a) = (ps, e, All·map (λ p l. omega arith) ps a)
-  columns-rref (suc k) c h z r =
+  above-columns zero c h z (e, a) = (e, All·map (λ p l. omega arith) (h .pivots) a)
+  above-columns (suc k) c h z r =
       let out = pull (has c) (h .down) in
       let pulls : (P : Car → Type 0) → Pull (has c) P (h .down) out = λ P. pull-right (has c) P (h .down) in
-      let s = columns-rref k (suc c) (column o _⊕_ (has c) h) (below-column c h out pulls z) (pivots-column c h out pulls z r) in
-      (s .0, s .1, All·map (λ p l. omega arith) (s .0) (s .2))
+      let s = above-columns k (suc c) (column o _⊕_ c (has c) h) (below-column c h out pulls z) (above-column c h out pulls z r) in
+      (s .0, All·map (λ p l. omega arith) (columns o _⊕_ has k (suc c) (column o _⊕_ c (has c) h) .pivots) (s .1))
 
 -- ---- an echelon list by its indices
 

@@ -10,7 +10,7 @@ use native.Mathlib.Numerals.{add-one}
 use lib.ListN.{length, take, drop, getD, set, length-set}
 use lib.Seq.{take-set-le}
 use Rattle.blocks.proofs.Firsts.{First, first-later, first-inner}
-use Rattle.reduction.specs.Columns.{unpulled, pulled, putIf, put, pullIf, pull, Halves, clear, columnBy, column, columns}
+use Rattle.reduction.specs.Columns.{unpulled, pulled, putIf, put, pullIf, pull, Echelon, clear, columnBy, column, columns}
 use Rattle.reduction.specs.inner.Sweeps.{halves}
 
 -- the rows p and j exchanged
@@ -76,11 +76,11 @@ module _ {A : Type 0} (f : A → A) where
   others-drop (suc p) (y ∷ ys) = others-drop p ys
 
 module _ {A : Type 0} (o : A) (add : A → A → A) (d : A) where
-  pub column-at : (has : A → Bool) (p j : ℕ) (l : List A) → First has d l p j
-      → column o add has (halves p l) ≡ halves (suc p) (others (clear o add has (getD l j d)) p (swapped d p j l))
-  column-at has p j l f =
-      ap (columnBy o add has (halves p l)) (pull-at has d p j l f)
-      ∙ ap₂ (λ u w. record { up = u; down = w })
+  pub column-at : (c : ℕ) (has : A → Bool) (p j : ℕ) (ps : List ℕ) (l : List A) → First has d l p j
+      → column o add c has (halves p ps l) ≡ halves (suc p) (ps ++ (c ∷ [])) (others (clear o add has (getD l j d)) p (swapped d p j l))
+  column-at c has p j ps l f =
+      ap (columnBy o add c has (halves p ps l)) (pull-at has d p j l f)
+      ∙ ap₂ (λ u w. record { up = u; down = w; pivots = ps ++ (c ∷ []) })
       (sym (others-take cl d p s inside ∙ ap₂ (λ t x. map cl t ++ (x ∷ [])) above (swapped-pivot d p j l (f .from) (f .inside))))
       (sym (others-drop cl p s))
     where
@@ -96,19 +96,19 @@ module _ {A : Type 0} (o : A) (add : A → A → A) (d : A) where
       above : take p s ≡ take p l
       above = take-set-le p (set l p (getD l j d)) j (getD l p d) (f .from) ∙ take-set-le p l p (getD l j d) (le-refl p)
 
-  pub column-none : (has : A → Bool) (p : ℕ) (l : List A) → ((i : ℕ) → p ≤ i → i < length l → has (getD l i d) ≡ false)
-      → column o add has (halves p l) ≡ halves p l
-  column-none has p l f = ap (columnBy o add has (halves p l)) (pull-none has d p l f)
+  pub column-none : (c : ℕ) (has : A → Bool) (p : ℕ) (ps : List ℕ) (l : List A) → ((i : ℕ) → p ≤ i → i < length l → has (getD l i d) ≡ false)
+      → column o add c has (halves p ps l) ≡ halves p ps l
+  column-none c has p ps l f = ap (columnBy o add c has (halves p ps l)) (pull-none has d p l f)
 
 -- ---- the columns from c on, of m
 
 module _ {A : Type 0} (o : A) (add : A → A → A) (has : ℕ → A → Bool) where
-  pub columns-next : (m c : ℕ) (h : Halves A) → c < m → columns o add has (m - c) c h ≡ columns o add has (m - (c + 1)) (c + 1) (column o add (has c) h)
+  pub columns-next : (m c : ℕ) (h : Echelon A) → c < m → columns o add has (m - c) c h ≡ columns o add has (m - (c + 1)) (c + 1) (column o add c (has c) h)
   unfolding columns
   columns-next m c h l =
       let e : m - c ≡ suc (m - (c + 1)) = omega arith in
-      ap (λ k. columns o add has k c h) e ∙ ap (λ b. columns o add has (m - (c + 1)) b (column o add (has c) h)) (sym (add-one c))
+      ap (λ k. columns o add has k c h) e ∙ ap (λ b. columns o add has (m - (c + 1)) b (column o add c (has c) h)) (sym (add-one c))
 
-  pub columns-done : (m c : ℕ) (h : Halves A) → m ≤ c → columns o add has (m - c) c h ≡ h
+  pub columns-done : (m c : ℕ) (h : Echelon A) → m ≤ c → columns o add has (m - c) c h ≡ h
   unfolding columns
   columns-done m c h l = let e : m - c ≡ 0 = omega arith in ap (λ k. columns o add has k c h) e

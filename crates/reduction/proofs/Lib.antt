@@ -3,11 +3,13 @@ pub mod Echelon
 pub mod Unique
 pub mod Reduced
 pub mod Transform
+pub mod Pivots
 pub mod Forms
 pub mod Core
 pub mod Flat
 pub mod Sweep
 pub mod TwoLists
 pub mod Loops
+pub mod Cut
 pub mod Parts
 pub mod Crossed

@@ -13,15 +13,14 @@ use lib.Seq.{take-all, take-length, take-suc, length-take-le}
 use Rattle.binar.specs.Bits.{select, digit, bit, dot, _⊕_}
 use Rattle.binar.proofs.Digits.{digit-lt}
 use Rattle.binar.proofs.Sums.{zero-sum, sum-zero, sum-parts}
-use Rattle.blocks.specs.Matrices.{dots, units}
+use Rattle.blocks.specs.Matrices.{dots}
 use Rattle.blocks.specs.inner.Lists.{exchanged}
 use Rattle.blocks.proofs.Products.{dots-nil, dots-cons}
 use Rattle.blocks.proofs.Values.{exchanged-in}
 use Rattle.blocks.proofs.Firsts.{First}
 use Rattle.symplectic.specs.Picks.{addBoth}
-use Rattle.reduction.specs.Columns.{Halves, column, columns, reduced, rank, rowReduceWithTransform}
+use Rattle.reduction.specs.Columns.{Echelon, column}
 use Rattle.reduction.specs.inner.Sweeps.{halves, swept}
-use Rattle.reduction.proofs.Columns.{columns-map}
 use Rattle.reduction.proofs.Flat.{swapped, swapped-length}
 use Rattle.reduction.proofs.Sweep.{swept-length}
 use Rattle.reduction.proofs.TwoLists.{zip-length, above-left, above-right, both-at}
@@ -34,14 +33,15 @@ none-more has p i f e x a l = ⊎-elim (λ q. ap has q ∙ e) (λ q. f x a q) (e
 
 -- ---- a column
 
-pub column-done : (c p j : ℕ) (R T R₁ T₁ R₂ T₂ : List ℕ) → length R ≡ length T → First (bit c) 0 R p j
+pub column-done : (c p j : ℕ) (ps R T R₁ T₁ R₂ T₂ : List ℕ) → length R ≡ length T → First (bit c) 0 R p j
     → R₁ ≡ exchanged p j R → T₁ ≡ exchanged p j T
     → R₂ ≡ swept 0 _⊕_ (λ i. bit c (getD R₁ i 0)) p (length R₁) R₁ → T₂ ≡ swept 0 _⊕_ (λ i. bit c (getD R₁ i 0)) p (length T₁) T₁
-    → (length R₂ ≡ length T₂) × (p + 1 ≤ length R₂) × (halves (p + 1) (zip R₂ T₂) ≡ column (0, 0) addBoth (λ a. bit c (a .0)) (halves p (zip R T)))
-column-done c p j R T R₁ T₁ R₂ T₂ e f r₁ t₁ r₂ t₂ =
+    → (length R₂ ≡ length T₂) × (p + 1 ≤ length R₂)
+    × (halves (p + 1) (ps ++ (c ∷ [])) (zip R₂ T₂) ≡ column (0, 0) addBoth c (λ a. bit c (a .0)) (halves p ps (zip R T)))
+column-done c p j ps R T R₁ T₁ R₂ T₂ e f r₁ t₁ r₂ t₂ =
     let from = f .from in
     let inside = f .inside in
-    (long ∙ e ∙ sym long′, omega (arith, long), ap₂ (λ k l. halves k l) (add-one p) (ap₂ zip rows transform) ∙ sym (both-at c p j R T e f))
+    (long ∙ e ∙ sym long′, omega (arith, long), ap₂ (λ k l. halves k (ps ++ (c ∷ [])) l) (add-one p) (ap₂ zip rows transform) ∙ sym (both-at c p j ps R T e f))
   where
     R′ : List ℕ
     R′ = swapped 0 p j R
@@ -74,7 +74,7 @@ column-done c p j R T R₁ T₁ R₂ T₂ e f r₁ t₁ r₂ t₂ =
 
 -- ---- the two lists at the end
 
-module _ (p : ℕ) (R T : List ℕ) (h : Halves (ℕ × ℕ)) (e : length R ≡ length T) (is : halves p (zip R T) ≡ h) where
+module _ (p : ℕ) (ps R T : List ℕ) (h : Echelon (ℕ × ℕ)) (e : length R ≡ length T) (is : halves p ps (zip R T) ≡ h) where
   joined : h .up ++ h .down ≡ take (length R) (zip R T)
   joined = ap (λ k. k .up ++ k .down) (sym is) ∙ take-append-drop p (zip R T) ∙ sym (take-all (length R) (zip R T) (omega (arith, zip-length R T e)))
 
@@ -86,15 +86,6 @@ module _ (p : ℕ) (R T : List ℕ) (h : Halves (ℕ × ℕ)) (e : length R ≡ 
 
   pub rank-of : p ≤ length R → p ≡ length (h .up)
   rank-of l = sym (ap (λ k. length (k .up)) (sym is) ∙ length-take-le p (zip R T) (subst (λ k. p ≤ k) (sym (zip-length R T e)) l))
-
--- the rank, whatever rows stand beside
-pub rank-beside : (m : ℕ) (R T : List ℕ) → length R ≡ length T
-    → length (columns (0, 0) addBoth (λ c a. bit c (a .0)) m 0 (halves 0 (zip R T)) .up) ≡ rank m R
-unfolding rank reduced
-rank-beside m R T e =
-    sym (length-map (columns (0, 0) addBoth (λ c a. bit c (a .0)) m 0 (halves 0 (zip R T)) .up) (λ a. a .0))
-    ∙ ap (λ k. length (k .up)) (sym (columns-map (λ a. a .0) (0, 0) addBoth 0 _⊕_ refl (λ x y. refl) bit m 0 (halves 0 (zip R T))))
-    ∙ ap (λ l. length (columns 0 _⊕_ bit m 0 (record { up = []; down = l }) .up)) (sym (rows-of 0 R T (halves 0 (zip R T)) e refl))
 
 -- ---- dots, column by column
 
@@ -119,12 +110,3 @@ dots-next M i v h =
     let k : i ≤ length M = omega arith in
     ap (λ n. dots (take n M) v) (add-one i) ∙ ap (λ l. dots l v) (take-suc M i 0 h) ∙ dots-snoc (take i M) (getD M i 0) v
     ∙ ap (λ n. dots (take i M) v ⊕ select 0 (dot v (getD M i 0)) (2 ^ n)) (length-take-le i M k)
-
--- ---- the start of the reduction with its transform
-
-pub begun : (m : ℕ) (M R T : List ℕ) → R ≡ M → T ≡ units (length R)
-    → columns (0, 0) addBoth (λ c a. bit c (a .0)) m 0 (halves 0 (zip R T)) ≡ rowReduceWithTransform m M
-unfolding rowReduceWithTransform
-begun m M R T r t =
-    ap (λ l. columns (0, 0) addBoth (λ c a. bit c (a .0)) m 0 (halves 0 (zip R l))) t
-    ∙ ap (λ l. columns (0, 0) addBoth (λ c a. bit c (a .0)) m 0 (halves 0 (zip l (units (length l))))) r

@@ -2,25 +2,27 @@
 -- Assumes nothing.
 use mathlib.Core.Path.{_≡_, sym, ap, ap₂, _∙_}
 use mathlib.Core.List.{List, _++_, map, map-append}
-use Prim.Native.Nat.{ℕ, _+_, _-_, _^_, _≤_, _<_}
+use Prim.Native.Nat.{ℕ, _+_, _-_, _%_, _^_, _≤_, _<_}
 use native.Mathlib.Omega.{arith}
 use lib.ListN.{length, take, drop, getD, length-map, length-append, length-drop, List·getD-append}
 use lib.Seq.{take-all, take-at, getD-append-add, getD-take, getD-drop}
 use Rattle.binar.specs.Bits.{_⊕_}
-use Rattle.binar.specs.Rows.{width}
+use Rattle.binar.specs.Rows.{width, rowBound}
 use Rattle.binar.proofs.Sums.{sum-comm}
+use Rattle.binar.proofs.Widths.{kept-whole}
 use Rattle.blocks.specs.Matrices.{times, units}
-use Rattle.blocks.proofs.All.{All·at}
+use Rattle.blocks.proofs.All.{All·map, All·at}
 use Rattle.blocks.proofs.Products.{times-unit}
 use Rattle.blocks.proofs.Units.{units-length, units-lt, units-at}
 use Rattle.blocks.proofs.Values.{map-get}
 use Rattle.symplectic.specs.Actions.{maxQubits}
 use Rattle.symplectic.specs.Turns.{identityPlus}
+use Rattle.symplectic.proofs.Lists.{map-eq}
 use Rattle.symplectic.proofs.Layers.{added, added-is, identityPlus-is}
-use Rattle.reduction.specs.Columns.{Halves, rowReduceWithTransform}
+use Rattle.reduction.specs.Columns.{Echelon, rows, rowReduceWithTransform, rank}
 use Rattle.reduction.specs.Residue.{residue, reduction, basis, transform, timesTransposed, core}
 use Rattle.reduction.proofs.Core.{residue-length}
-use Rattle.reduction.proofs.Transform.{transform-length}
+use Rattle.reduction.proofs.Transform.{basis-transform-lt, up-rank, transform-length}
 
 -- ---- the rows of I + F
 
@@ -57,29 +59,35 @@ upper-at n i l h g e =
 
 -- ---- the basis and the core
 
--- rows that fit beside their transform
-pub fits-all : (l : List ℕ) → length l ≤ width → take width l ≡ l
-fits-all l h = take-all width l h
-
-front : (f : ℕ × ℕ → ℕ) (h : Halves (ℕ × ℕ)) → take (length (h .up)) (map f (h .up ++ h .down)) ≡ map f (h .up)
+front : (f : ℕ × ℕ → ℕ) (h : Echelon (ℕ × ℕ)) → take (length (h .up)) (map f (rows h)) ≡ map f (h .up)
 front f h =
     ap (take (length (h .up))) (map-append f (h .up) (h .down)) ∙ take-at (map f (h .up)) (map f (h .down)) (length (h .up)) (length-map (h .up) f)
 
 module _ (n q p : ℕ) (F M R T : List ℕ) (size : length F ≡ q + q) (small : q ≤ maxQubits) (same : n ≡ q) (is : M ≡ residue q F)
-    (r : R ≡ map (λ a. a .0) (rowReduceWithTransform (n + n) (take width M) .up ++ rowReduceWithTransform (n + n) (take width M) .down))
-    (t : T ≡ map (λ a. a .1) (rowReduceWithTransform (n + n) (take width M) .up ++ rowReduceWithTransform (n + n) (take width M) .down))
-    (k : p ≡ length (rowReduceWithTransform (n + n) (take width M) .up)) where
-  same-rows : rowReduceWithTransform (n + n) (take width M) ≡ reduction q F
+    (r : R ≡ map (λ a. a .0) (rows (rowReduceWithTransform (n + n) M))) (t : T ≡ map (λ a. a .1 % rowBound) (rows (rowReduceWithTransform (n + n) M)))
+    (k : p ≡ rank (n + n) M) where
+  same-rows : rowReduceWithTransform (n + n) M ≡ reduction q F
   unfolding reduction
-  same-rows = ap₂ (λ k l. rowReduceWithTransform (k + k) l) same (ap (take width) is ∙ fits-all (residue q F) (omega (arith, residue-length q F size)))
+  same-rows = ap₂ (λ k l. rowReduceWithTransform (k + k) l) same is
+
+  up-count : p ≡ length (reduction q F .up)
+  up-count = k ∙ sym (up-rank (n + n) M) ∙ ap (λ h. length (h .up)) same-rows
 
   pub basis-end : take p R ≡ basis q F
   unfolding basis
-  basis-end = ap₂ take k r ∙ front (λ a. a .0) (rowReduceWithTransform (n + n) (take width M)) ∙ ap (λ h. map (λ a. a .0) (h .up)) same-rows
+  basis-end = ap₂ take up-count (r ∙ ap (λ h. map (λ a. a .0) (rows h)) same-rows) ∙ front (λ a. a .0) (reduction q F)
+
+  -- no row of the transform is cut
+  whole : map (λ a. a .1 % rowBound) (reduction q F .up) ≡ map (λ a. a .1) (reduction q F .up)
+  unfolding reduction
+  whole =
+      map-eq (λ a. a .1 % rowBound) (λ a. a .1) (reduction q F .up)
+      (All·map (λ a h. kept-whole (length (residue q F)) (a .1) (omega (arith, residue-length q F size)) h) (reduction q F .up) (basis-transform-lt (q + q) (residue q F)))
 
   transform-end : take p T ≡ transform q F
   unfolding transform
-  transform-end = ap₂ take k t ∙ front (λ a. a .1) (rowReduceWithTransform (n + n) (take width M)) ∙ ap (λ h. map (λ a. a .1) (h .up)) same-rows
+  transform-end =
+      ap₂ take up-count (t ∙ ap (λ h. map (λ a. a .1 % rowBound) (rows h)) same-rows) ∙ front (λ a. a .1 % rowBound) (reduction q F) ∙ whole
 
   short : length (transform q F) ≤ width
   unfolding transform reduction
@@ -89,4 +97,4 @@ module _ (n q p : ℕ) (F M R T : List ℕ) (size : length F ≡ q + q) (small :
 
   pub core-end : timesTransposed (take p R) (take width (take p T)) ≡ core q F
   unfolding core
-  core-end = ap₂ timesTransposed basis-end (ap (take width) transform-end ∙ fits-all (transform q F) short)
+  core-end = ap₂ timesTransposed basis-end (ap (take width) transform-end ∙ take-all width (transform q F) short)

@@ -24,31 +24,11 @@ use Rattle.linear.proofs.Instances.{𝔹, 𝕎, scale-true}
 use Rattle.linear.proofs.Maps.{map-at, span-kernel}
 use Rattle.linear.proofs.Rows.{times-in, units-span, span-lt}
 use Rattle.symplectic.proofs.Lists.{All·each}
-use Rattle.reduction.specs.Columns.{reduced, rank}
-use Rattle.reduction.proofs.Columns.{rows, keeps-columns, closed-columns, length-columns}
-use Rattle.reduction.proofs.Echelon.{Below, Rref, Pivots, below-columns, columns-rref, rref-length, tail-zero}
+use Rattle.reduction.specs.Columns.{rows, unreduced}
+use Rattle.reduction.specs.inner.Plain.{reduced}
+use Rattle.reduction.proofs.Columns.{keeps-columns, closed-columns, length-columns}
+use Rattle.reduction.proofs.Echelon.{Below, Rref, Above, below-columns, above-columns, rref-length, tail-zero}
 use Rattle.reduction.proofs.Unique.{rref-indep, unique}
-
--- ---- the first one of a row
-
-pub trailing-at : (m x p : ℕ) → p < m → bit p x ≡ true → ((k : ℕ) → k < p → bit k x ≡ false) → trailingZeros m x ≡ p
-unfolding trailingZeros
-trailing-at zero x p l e z = absurd (not-suc-le-zero l)
-trailing-at (suc m) x zero l e z = ap (λ d. under d (trailingZeros m (x / 2))) (low-digit x ∙ ap digit (sym (bit-zero-is-odd x) ∙ e))
-trailing-at (suc m) x (suc p) l e z =
-    ap (λ d. under d (trailingZeros m (x / 2))) (low-digit x ∙ ap digit (sym (bit-zero-is-odd x) ∙ z 0 (zero-lt-suc p)))
-    ∙ ap suc (trailing-at m (x / 2) p (le-of-suc-le-suc l) (sym (bit-suc p x) ∙ e) (λ k h. sym (bit-suc k x) ∙ z (suc k) (suc-le-suc h)))
-
--- the columns that carried the rank: where each basis row of m columns has its first one
-unfoldable pub pivots : ℕ → List ℕ → List ℕ
-pivots m B = map (trailingZeros m) B
-
-pivots-are : (m : ℕ) (ps us : List ℕ) → Rref bit ps us → All (λ p. p < m) ps → ps ≡ pivots m us
-unfolding pivots
-pivots-are m [] [] r a = refl
-pivots-are m [] (u ∷ us) r a = absurd r
-pivots-are m (p ∷ ps) [] r a = absurd r
-pivots-are m (p ∷ ps) (u ∷ us) r a = ap₂ _∷_ (sym (trailing-at m u p (a .0) (r .0) (r .1))) (pivots-are m ps us (r .3) (a .1))
 
 -- the bits of a sum of the rows at the pivots say which rows it takes
 pub times-pivot : (ps us : List ℕ) → Rref bit ps us → (c i : ℕ) → i < length us → bit (getD ps i 0) (times c us) ≡ bit i c
@@ -76,44 +56,43 @@ module _ (m : ℕ) (M : List ℕ) where
 
   pub reduced-length : length (rows (reduced m M)) ≡ length M
   unfolding reduced
-  reduced-length = length-columns 0 _⊕_ bit m 0 (record { up = []; down = M })
+  reduced-length = length-columns 0 _⊕_ bit m 0 (unreduced M)
 
-  pub rank-length : rank m M ≤ length M
-  unfolding rank
-  rank-length = omega (arith, length-append (reduced m M .up) (reduced m M .down), reduced-length)
+  pub up-length : length (reduced m M .up) ≤ length M
+  up-length = omega (arith, length-append (reduced m M .up) (reduced m M .down), reduced-length)
 
   -- the rows below have none of the columns
   pub reduced-below : Below bit m (reduced m M .down)
   unfolding reduced
-  reduced-below = λ k l. below-columns 𝕎 bit bit-sum m 0 (record { up = []; down = M }) (none-before bit M) k (omega arith)
+  reduced-below = λ k l. below-columns 𝕎 bit bit-sum m 0 (unreduced M) (none-before bit M) k (omega arith)
 
-  found : Pivots bit (0 + m) (reduced m M .up)
+  above : Above bit (0 + m) (reduced m M)
   unfolding reduced
-  found = columns-rref 𝕎 bit bit-sum m 0 (record { up = []; down = M }) (none-before bit M) ([], tt, tt)
+  above = above-columns 𝕎 bit bit-sum m 0 (unreduced M) (none-before bit M) (tt, tt)
 
-  found-lt : All (λ p. p < m) (found .0)
-  found-lt = All·map (λ p l. omega arith) (found .0) (found .2)
+  -- the rows above are an echelon list with the pivots, and these are among the columns
+  pub reduced-rref : Rref bit (reduced m M .pivots) (reduced m M .up)
+  reduced-rref = above .0
 
-  found-are : found .0 ≡ pivots m (reduced m M .up)
-  found-are = pivots-are m (found .0) (reduced m M .up) (found .1) found-lt
+  pub pivots-lt : All (λ p. p < m) (reduced m M .pivots)
+  pivots-lt = All·map (λ p l. omega arith) (reduced m M .pivots) (above .1)
 
-  -- the rows above are an echelon list, with these pivots
-  pub reduced-rref : Rref bit (pivots m (reduced m M .up)) (reduced m M .up)
-  reduced-rref = subst (λ ps. Rref bit ps (reduced m M .up)) found-are (found .1)
+  pub pivots-length : length (reduced m M .pivots) ≡ length (reduced m M .up)
+  pivots-length = rref-length bit (reduced m M .pivots) (reduced m M .up) reduced-rref
 
   pub reduced-indep : Indep 𝕎 (reduced m M .up)
-  reduced-indep = rref-indep 𝕎 bit bit-sum (found .0) (reduced m M .up) (found .1)
+  reduced-indep = rref-indep 𝕎 bit bit-sum (reduced m M .pivots) (reduced m M .up) reduced-rref
 
   -- every row of the matrix is a sum of rows at the end
   keeps : All (InSpan 𝕎 (rows (reduced m M))) M
   unfolding reduced
-  keeps = keeps-columns 𝕎 bit m 0 (record { up = []; down = M })
+  keeps = keeps-columns 𝕎 bit m 0 (unreduced M)
 
   -- and every row at the end a sum of rows of the matrix
   pub reduced-in : All (InSpan 𝕎 M) (rows (reduced m M))
   unfolding reduced
   reduced-in =
-      closed-columns 𝕎 bit (InSpan 𝕎 M) (λ x y b k l. span-add 𝕎 M y (scale 𝕎 b x) l (span-scale 𝕎 M b x k)) m 0 (record { up = []; down = M })
+      closed-columns 𝕎 bit (InSpan 𝕎 M) (λ x y b k l. span-add 𝕎 M y (scale 𝕎 b x) l (span-scale 𝕎 M b x k)) m 0 (unreduced M)
       (span-members 𝕎 M)
 
   pub basis-in : All (InSpan 𝕎 M) (reduced m M .up)
@@ -138,19 +117,16 @@ module _ (m : ℕ) (M : List ℕ) where
             All·append (InSpan 𝕎 (reduced m M .up)) (reduced m M .up) (reduced m M .down) (span-members 𝕎 (reduced m M .up))
             (All·map (λ v e. subst (InSpan 𝕎 (reduced m M .up)) (sym e) (span-zero 𝕎 (reduced m M .up))) (reduced m M .down) reduced-zero)
 
-    pub rank-width : rank m M ≤ m
-    unfolding rank
-    rank-width =
+    pub up-width : length (reduced m M .up) ≤ m
+    up-width =
         let l = steinitz 𝕎 (units m) (reduced m M .up) reduced-indep
         (All·map (λ v h. units-span m v h) (reduced m M .up) (All·left (λ v. v < 2 ^ m) (reduced m M .up) (reduced m M .down) reduced-lt)) in
         omega (arith, units-length m)
-
--- ---- the rank is the dimension of the span
 
 -- rows with one span have one reduced basis
 pub reduced-unique : (m : ℕ) (M N : List ℕ) → All (λ v. v < 2 ^ m) M → All (λ v. v < 2 ^ m) N → All (InSpan 𝕎 N) M → All (InSpan 𝕎 M) N
     → reduced m M .up ≡ reduced m N .up
 reduced-unique m M N a b h k =
-    unique 𝕎 bit bit-sum (pivots m (reduced m M .up)) (pivots m (reduced m N .up)) (reduced m M .up) (reduced m N .up) (reduced-rref m M) (reduced-rref m N)
+    unique 𝕎 bit bit-sum (reduced m M .pivots) (reduced m N .pivots) (reduced m M .up) (reduced m N .up) (reduced-rref m M) (reduced-rref m N)
     (All·map (λ x l. span-trans 𝕎 N (reduced m N .up) x (reduced-out m N b) (span-trans 𝕎 M N x h l)) (reduced m M .up) (basis-in m M))
     (All·map (λ x l. span-trans 𝕎 M (reduced m M .up) x (reduced-out m M a) (span-trans 𝕎 N M x k l)) (reduced m N .up) (basis-in m N)) .1

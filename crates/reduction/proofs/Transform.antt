@@ -2,8 +2,9 @@
 -- Assumes nothing.
 use mathlib.Core.Path.{_≡_, refl, sym, ap, ap₂, _∙_, subst}
 use mathlib.Core.Bool.{true, false}
-use mathlib.Core.List.{List, [], map, map-map, zip}
-use Prim.Native.Nat.{ℕ, _^_, _<_}
+use mathlib.Core.List.{List, _++_, map, map-map, map-append, zip}
+use Prim.Native.Nat.{ℕ, _^_, _≤_, _<_}
+use native.Mathlib.Omega.{arith}
 use lib.ListN.{length, length-map}
 use Rattle.binar.specs.Bits.{bit, _⊕_}
 use Rattle.binar.proofs.Sums.{sum-lt}
@@ -16,9 +17,10 @@ use Rattle.linear.proofs.Sums.{add-zero}
 use Rattle.linear.proofs.Instances.{𝕎, Prod}
 use Rattle.symplectic.specs.Picks.{addBoth}
 use Rattle.symplectic.proofs.Lists.{map-eq, zip-map}
-use Rattle.reduction.specs.Columns.{columns, reduced, rowReduceWithTransform}
-use Rattle.reduction.proofs.Columns.{rows, Closed, closed-columns, length-columns, mapHalves, columns-map}
-use Rattle.reduction.proofs.Reduced.{reduced-indep, reduced-zero, reduced-out}
+use Rattle.reduction.specs.Columns.{rows, unreduced, columns, rowReduceWithTransform, rank}
+use Rattle.reduction.specs.inner.Plain.{reduced}
+use Rattle.reduction.proofs.Columns.{Closed, closed-columns, length-columns, mapRows, columns-map}
+use Rattle.reduction.proofs.Reduced.{pivots-length, up-length, up-width, reduced-indep, reduced-zero, reduced-out}
 
 module _ (m : ℕ) (M : List ℕ) where
   start-is : zip M (units (length M)) ≡ map (λ u. (times u M, u)) (units (length M))
@@ -35,7 +37,7 @@ module _ (m : ℕ) (M : List ℕ) where
   beside : All Beside (rows (rowReduceWithTransform m M))
   unfolding rowReduceWithTransform
   beside =
-      closed-columns (Prod 𝕎 𝕎) (λ c a. bit c (a .0)) Beside beside-closed m 0 (record { up = []; down = zip M (units (length M)) })
+      closed-columns (Prod 𝕎 𝕎) (λ c a. bit c (a .0)) Beside beside-closed m 0 (unreduced (zip M (units (length M))))
       (subst (All Beside) (sym start-is)
       (All·to-map (λ u. (times u M, u)) Beside (units (length M)) (All·map (λ u h. (refl, h)) (units (length M)) (units-lt (length M)))))
 
@@ -60,11 +62,11 @@ module _ (m : ℕ) (M : List ℕ) where
       ∙ sym (matmul-is (map (λ a. a .1) (rows (rowReduceWithTransform m M))) M ∙ map-map (λ r. times r M) (λ a. a .1) (rows (rowReduceWithTransform m M)))
 
   -- the rows alone are those of the plain reduction
-  pub rows-reduced : mapHalves (λ a. a .0) (rowReduceWithTransform m M) ≡ reduced m M
+  pub rows-reduced : mapRows (λ a. a .0) (rowReduceWithTransform m M) ≡ reduced m M
   unfolding rowReduceWithTransform reduced
   rows-reduced =
-      sym (columns-map (λ a. a .0) (0, 0) addBoth 0 _⊕_ refl (λ x y. refl) bit m 0 (record { up = []; down = zip M (units (length M)) }))
-      ∙ ap (λ l. columns 0 _⊕_ bit m 0 (record { up = []; down = l })) start-rows
+      sym (columns-map (λ a. a .0) (0, 0) addBoth 0 _⊕_ refl (λ x y. refl) bit m 0 (unreduced (zip M (units (length M)))))
+      ∙ ap (λ l. columns 0 _⊕_ bit m 0 (unreduced l)) start-rows
     where
       start-rows : map (λ a. a .0) (zip M (units (length M))) ≡ M
       start-rows = ap (map (λ a. a .0)) start-is ∙ map-map (λ a. a .0) (λ u. (times u M, u)) (units (length M)) ∙ times-units M
@@ -75,16 +77,36 @@ module _ (m : ℕ) (M : List ℕ) where
   pub rest-reduced : map (λ a. a .0) (rowReduceWithTransform m M .down) ≡ reduced m M .down
   rest-reduced = ap (λ h. h .down) rows-reduced
 
+  pub all-reduced : map (λ a. a .0) (rows (rowReduceWithTransform m M)) ≡ rows (reduced m M)
+  all-reduced = let h = rowReduceWithTransform m M in map-append (λ a. a .0) (h .up) (h .down) ∙ ap₂ _++_ basis-reduced rest-reduced
+
+  pub pivots-reduced : rowReduceWithTransform m M .pivots ≡ reduced m M .pivots
+  pivots-reduced = ap (λ h. h .pivots) rows-reduced
+
+  -- as many rows as pivots
+  pub rank-up : rank m M ≡ length (reduced m M .up)
+  unfolding rank
+  rank-up = ap length pivots-reduced ∙ pivots-length m M
+
+  pub up-rank : length (rowReduceWithTransform m M .up) ≡ rank m M
+  up-rank = sym (length-map (rowReduceWithTransform m M .up) (λ a. a .0)) ∙ ap length basis-reduced ∙ sym rank-up
+
+  pub rank-length : rank m M ≤ length M
+  rank-length = omega (arith, rank-up, up-length m M)
+
   pub transform-length : length (rows (rowReduceWithTransform m M)) ≡ length M
   unfolding rowReduceWithTransform
   transform-length =
-      length-columns (0, 0) addBoth (λ c a. bit c (a .0)) m 0 (record { up = []; down = zip M (units (length M)) })
+      length-columns (0, 0) addBoth (λ c a. bit c (a .0)) m 0 (unreduced (zip M (units (length M))))
       ∙ ap length start-is ∙ length-map (units (length M)) (λ u. (times u M, u)) ∙ units-length (length M)
 
   pub up-indep : Indep 𝕎 (map (λ a. a .0) (rowReduceWithTransform m M .up))
   up-indep = subst (Indep 𝕎) (sym basis-reduced) (reduced-indep m M)
 
   module _ (small : All (λ v. v < 2 ^ m) M) where
+    pub rank-width : rank m M ≤ m
+    rank-width = omega (arith, rank-up, up-width m M small)
+
     -- every row of the matrix is a sum of rows above
     pub up-spans : All (InSpan 𝕎 (map (λ a. a .0) (rowReduceWithTransform m M .up))) M
     up-spans = subst (λ B. All (InSpan 𝕎 B) M) (sym basis-reduced) (reduced-out m M small)

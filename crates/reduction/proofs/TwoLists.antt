@@ -2,7 +2,7 @@
 -- Assumes nothing.
 use mathlib.Core.Path.{_≡_, refl, sym, ap, ap₂, _∙_, subst}
 use mathlib.Core.Bool.{Bool, true, false}
-use mathlib.Core.List.{List, [], _∷_, map, zip, zipWith}
+use mathlib.Core.List.{List, [], _∷_, _++_, map, zip, zipWith}
 use Prim.Native.Nat.{ℕ, zero, suc, _≤_, _<_}
 use native.Mathlib.Nat.{suc-inj, suc-ne-zero}
 use lib.Dec.{eqb}
@@ -49,6 +49,12 @@ module _ {A B : Type 0} where
   zip-take (suc p) [] T = refl
   zip-take (suc p) (r ∷ R) [] = refl
   zip-take (suc p) (r ∷ R) (t ∷ T) = ap (λ l. (r, t) ∷ l) (zip-take p R T)
+
+  pub zip-mapped : {C : Type 0} (g : B → C) (R : List A) (T : List B) → zip R (map g T) ≡ map (λ a. (a .0, g (a .1))) (zip R T)
+  unfolding zip zipWith
+  zip-mapped g [] T = refl
+  zip-mapped g (r ∷ R) [] = refl
+  zip-mapped g (r ∷ R) (t ∷ T) = ap (λ l. (r, g t) ∷ l) (zip-mapped g R T)
 
   -- the first of the pairs above the pivot row, and the second
   pub above-left : (p : ℕ) (R : List A) (T : List B) → length R ≡ length T → map (λ a. a .0) (take p (zip R T)) ≡ take p R
@@ -109,13 +115,13 @@ zip-swept R T e t p (suc i) = go (eqb i p) (t i) ∙ ap (sweepIf zeros addBoth p
 
 -- ---- a column
 
-pub both-at : (c p j : ℕ) (R T : List ℕ) → length R ≡ length T → First (bit c) 0 R p j
-    → column (0, 0) addBoth (λ a. bit c (a .0)) (halves p (zip R T))
-    ≡ halves (suc p) (zip (swept 0 _⊕_ (λ i. bit c (getD (swapped 0 p j R) i 0)) p (length R) (swapped 0 p j R))
+pub both-at : (c p j : ℕ) (ps R T : List ℕ) → length R ≡ length T → First (bit c) 0 R p j
+    → column (0, 0) addBoth c (λ a. bit c (a .0)) (halves p ps (zip R T))
+    ≡ halves (suc p) (ps ++ (c ∷ [])) (zip (swept 0 _⊕_ (λ i. bit c (getD (swapped 0 p j R) i 0)) p (length R) (swapped 0 p j R))
     (swept 0 _⊕_ (λ i. bit c (getD (swapped 0 p j R) i 0)) p (length R) (swapped 0 p j T)))
-both-at c p j R T e f =
-    column-at zeros addBoth zeros has p j (zip R T) first
-    ∙ ap (halves (suc p))
+both-at c p j ps R T e f =
+    column-at zeros addBoth zeros c has p j ps (zip R T) first
+    ∙ ap (halves (suc p) (ps ++ (c ∷ [])))
     (ap (λ x. others (clear zeros addBoth has x) p (swapped zeros p j (zip R T))) (sym (swapped-pivot zeros p j (zip R T) (first .from) (first .inside)))
     ∙ ap (λ l. others (clear zeros addBoth has (getD l p zeros)) p l) (sym (zip-swapped R T e p j))
     ∙ sym (swept-all zeros zeros addBoth (add-zero (Prod 𝕎 𝕎)) has p (zip R′ T′) t (λ i h. ap has (sym (zip-at R′ T′ 0 0 long i))))
@@ -145,8 +151,8 @@ both-at c p j R T e f =
       at = ap has (zip-at R T 0 0 e j) ∙ f .at;
     }
 
-pub both-none : (c p : ℕ) (R T : List ℕ) → length R ≡ length T → ((i : ℕ) → p ≤ i → i < length R → bit c (getD R i 0) ≡ false)
-    → column (0, 0) addBoth (λ a. bit c (a .0)) (halves p (zip R T)) ≡ halves p (zip R T)
-both-none c p R T e f =
-    column-none (0, 0) addBoth (0, 0) (λ a. bit c (a .0)) p (zip R T)
+pub both-none : (c p : ℕ) (ps R T : List ℕ) → length R ≡ length T → ((i : ℕ) → p ≤ i → i < length R → bit c (getD R i 0) ≡ false)
+    → column (0, 0) addBoth c (λ a. bit c (a .0)) (halves p ps (zip R T)) ≡ halves p ps (zip R T)
+both-none c p ps R T e f =
+    column-none (0, 0) addBoth (0, 0) c (λ a. bit c (a .0)) p ps (zip R T)
     (λ i a l. ap (λ x. bit c (x .0)) (zip-at R T 0 0 e i) ∙ f i a (subst (λ m. i < m) (zip-length R T e) l))

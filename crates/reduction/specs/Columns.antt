@@ -5,7 +5,7 @@ use mathlib.Core.Bool.{Bool, true, false}
 use mathlib.Core.List.{List, [], _∷_, _++_, map, zip}
 use Prim.Native.Nat.{ℕ, zero, suc}
 use lib.ListN.{length}
-use Rattle.binar.specs.Bits.{select, bit, _⊕_}
+use Rattle.binar.specs.Bits.{select, bit}
 use Rattle.blocks.specs.Matrices.{units}
 use Rattle.symplectic.specs.Picks.{addBoth}
 
@@ -36,37 +36,42 @@ abbrev pub pull : {A : Type 0} → (A → Bool) → List A → Pulled A
 pull has [] = unpulled
 pull has (t ∷ ts) = pullIf (has t) t ts (put has t ts)
 
--- the rows above the pivot row, and those from it down
-pub record Halves (A : Type 0) : Type 0 where
+-- where a reduction stands: the rows above the pivot row, the rows from it down, and the pivots, which are the columns for which the rows above were exchanged up
+pub record Echelon (A : Type 0) : Type 0 where
   pub up : List A
   pub down : List A
+  pub pivots : List ℕ
+
+-- before the first column
+abbrev pub unreduced : {A : Type 0} → List A → Echelon A
+unreduced l = record { up = []; down = l; pivots = [] }
+
+-- all rows, in their order
+abbrev pub rows : {A : Type 0} → Echelon A → List A
+rows h = h .up ++ h .down
 
 module _ {A : Type 0} (o : A) (add : A → A → A) where
   -- row y, with x added where y has the bit
   abbrev pub clear : (A → Bool) → A → A → A
   clear has x y = add y (select o (has y) x)
 
-  abbrev pub columnBy : (A → Bool) → Halves A → Pulled A → Halves A
-  columnBy has h unpulled = h
-  columnBy has h (pulled x rest) = record { up = map (clear has x) (h .up) ++ (x ∷ []); down = map (clear has x) rest }
+  abbrev pub columnBy : ℕ → (A → Bool) → Echelon A → Pulled A → Echelon A
+  columnBy c has h unpulled = h
+  columnBy c has h (pulled x rest) = record { up = map (clear has x) (h .up) ++ (x ∷ []); down = map (clear has x) rest; pivots = h .pivots ++ (c ∷ []) }
 
-  abbrev pub column : (A → Bool) → Halves A → Halves A
-  column has h = columnBy has h (pull has (h .down))
+  -- column c, which a row has where the test says so
+  abbrev pub column : ℕ → (A → Bool) → Echelon A → Echelon A
+  column c has h = columnBy c has h (pull has (h .down))
 
   -- the columns c, c + 1, .. k of them
-  unfoldable pub columns : (ℕ → A → Bool) → ℕ → ℕ → Halves A → Halves A
+  unfoldable pub columns : (ℕ → A → Bool) → ℕ → ℕ → Echelon A → Echelon A
   columns has zero c h = h
-  columns has (suc k) c h = columns has k (suc c) (column (has c) h)
+  columns has (suc k) c h = columns has k (suc c) (column c (has c) h)
 
--- the rows of a matrix reduced by its first m columns
-unfoldable pub reduced : ℕ → List ℕ → Halves ℕ
-reduced m M = columns 0 _⊕_ bit m 0 (record { up = []; down = M })
+-- the rows of a matrix reduced by its first m columns, and the same steps on the identity: each row beside its row of the transform
+unfoldable pub rowReduceWithTransform : ℕ → List ℕ → Echelon (ℕ × ℕ)
+rowReduceWithTransform m M = columns (0, 0) addBoth (λ c a. bit c (a .0)) m 0 (unreduced (zip M (units (length M))))
 
--- how many rows stand above the pivot row at the end
+-- how many columns carried it
 unfoldable pub rank : ℕ → List ℕ → ℕ
-rank m M = length (reduced m M .up)
-
--- the same steps on the rows and on the identity: each row beside its row of the transform
-unfoldable pub rowReduceWithTransform : ℕ → List ℕ → Halves (ℕ × ℕ)
-rowReduceWithTransform m M =
-    columns (0, 0) addBoth (λ c a. bit c (a .0)) m 0 (record { up = []; down = zip M (units (length M)) })
+rank m M = length (rowReduceWithTransform m M .pivots)

@@ -1,3 +1,4 @@
 pub mod Columns
+pub mod Pivots
 pub mod Residue
 pub mod inner

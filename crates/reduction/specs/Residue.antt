@@ -7,13 +7,13 @@ use lib.ListN.{take, drop}
 use Rattle.binar.specs.Bits.{dot}
 use Rattle.blocks.specs.Matrices.{times, dots}
 use Rattle.symplectic.specs.Turns.{identityPlus}
-use Rattle.reduction.specs.Columns.{Halves, rowReduceWithTransform}
+use Rattle.reduction.specs.Columns.{Echelon, rowReduceWithTransform}
 
 -- I + F with the upper and lower n rows exchanged
 unfoldable pub residue : ℕ → List ℕ → List ℕ
 residue n F = let rows = identityPlus n F in drop n rows ++ take n rows
 
-unfoldable pub reduction : ℕ → List ℕ → Halves (ℕ × ℕ)
+unfoldable pub reduction : ℕ → List ℕ → Echelon (ℕ × ℕ)
 reduction n F = rowReduceWithTransform (n + n) (residue n F)
 
 -- the r nonzero rows are the basis V

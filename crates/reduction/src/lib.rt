@@ -3,27 +3,31 @@
 use binar::Row;
 use binar::WIDTH;
 use blocks::Block;
+use blocks::ROOM;
 use symplectic::Action;
 ghost use mathlib.Core.Path.{_≡_};
 ghost use mathlib.Core.Bool.{true, false, not, _&&_};
 ghost use mathlib.Core.List.{List, _++_, map, zip};
-ghost use Prim.Native.Nat.{ℕ, _+_, _≤_, _<_};
+ghost use Prim.Native.Nat.{ℕ, _+_, _%_, _≤_, _<_};
 ghost use lib.ListN.{getD, take, drop, length};
 ghost use Rattle.binar.specs.Bits.{bit as bitOf, _⊕_, select};
-ghost use Rattle.binar.specs.Rows.{val, width, unit as unitOf};
+ghost use Rattle.binar.specs.Rows.{val, width, rowBound, unit as unitOf};
 ghost use Rattle.blocks.specs.Blocks.{rowsOf};
 ghost use Rattle.blocks.specs.Matrices.{dots as dotsOf};
 ghost use Rattle.symplectic.specs.Actions.{maxQubits, qubits, matrix};
 ghost use Rattle.symplectic.specs.Picks.{addBoth};
-ghost use Rattle.reduction.specs.Columns.{columns, rank as rankOf, rowReduceWithTransform};
-ghost use Rattle.reduction.specs.inner.Sweeps.{halves, halvesOf};
+ghost use Rattle.reduction.specs.Columns.{unreduced, rows as allRows, columns, rank as rankOf, rowReduceWithTransform};
+ghost use Rattle.reduction.specs.Pivots.{pivotsOf, FirstOnes, NoOtherOnes, Ascending};
+ghost use Rattle.reduction.specs.inner.Sweeps.{echelonOf};
 ghost use Rattle.reduction.specs.Residue.{residue as residueOf, basis as basisOf, core as coreOf, timesTransposed};
 
-// Rows and transform rows in their final order: the first `rank` rows are the basis.
-struct Reduction {
-    rows: Block,
-    transform: Block,
-    rank: usize,
+// A matrix reduced: its rows and those of the transform in their final order. The first `rank` rows are the basis, and the first `rank`
+// pivots the columns that carried it, ascending.
+pub struct Reduction {
+    pub rows: Block,
+    pub transform: Block,
+    pub pivots: [usize; ROOM],
+    pub rank: usize,
 }
 
 // The basis of an action's residue, and the core.
@@ -77,11 +81,12 @@ fn swept_row(u: Row, v: Row, pivot: bool, has: bool) -> Row
 fn by_columns(m: usize, rows: Block, transform: Block) -> Reduction
     requires { ⌜ length (rowsOf rows) ≡ length (rowsOf transform) ⌝ }
     ensures { λ r. ⌜ (length (rowsOf (r .rows)) ≡ length (rowsOf (r .transform))) × (r .rank ≤ length (rowsOf (r .rows)))
-        × (halvesOf r ≡ columns (0, 0) addBoth (λ c a. bitOf c (a .0)) m 0 (halves 0 (zip (rowsOf rows) (rowsOf transform)))) ⌝ }
+        × (echelonOf r ≡ columns (0, 0) addBoth (λ c a. bitOf c (a .0)) m 0 (unreduced (zip (rowsOf rows) (rowsOf transform)))) ⌝ }
 {
     let k = blocks::length_of(rows);
     let mut a = rows;
     let mut t = transform;
+    let mut pivots = [0; ROOM];
     let mut p: usize = 0;
     for c in 0..m {
         let j = first_with(a, c, p);
@@ -101,30 +106,36 @@ fn by_columns(m: usize, rows: Block, transform: Block) -> Reduction
                 a.rows[i] = row;
                 t.rows[i] = beside;
             }
+            pivots[p] = c;
             p += 1;
         }
     }
     Reduction {
         rows: a,
         transform: t,
+        pivots: pivots,
         rank: p,
     }
 }
 
-// The first rows, as many as a row of the transform has columns, with their transform.
-fn row_reduce_with_transform(m: usize, matrix: Block) -> Reduction
-    ensures { λ r. ⌜ (let h = rowReduceWithTransform m (take width (rowsOf matrix)) in
-        (rowsOf (r .rows) ≡ map (λ a. a .0) (h .up ++ h .down)) × (rowsOf (r .transform) ≡ map (λ a. a .1) (h .up ++ h .down)) × (r .rank ≡ length (h .up))) ⌝ }
+// The rows of a matrix reduced by its first m columns, with the transform, as far as a row of it has columns, and the pivots.
+pub fn row_reduce_with_transform(m: usize, matrix: Block) -> Reduction
+    ensures reduced { λ r. ⌜ rowsOf (r .rows) ≡ map (λ a. a .0) (allRows (rowReduceWithTransform m (rowsOf matrix))) ⌝ }
+    ensures transformed { λ r. ⌜ rowsOf (r .transform) ≡ map (λ a. a .1 % rowBound) (allRows (rowReduceWithTransform m (rowsOf matrix))) ⌝ }
+    ensures counted { λ r. ⌜ (r .rank ≡ rankOf m (rowsOf matrix)) × (length (pivotsOf r) ≡ r .rank) ⌝ }
+    ensures pivoted { λ r. ⌜ pivotsOf r ≡ rowReduceWithTransform m (rowsOf matrix) .pivots ⌝ }
+    ensures first_ones { λ r. ⌜ FirstOnes (r .rank) (pivotsOf r) (rowsOf (r .rows)) ⌝ }
+    ensures no_other_ones { λ r. ⌜ NoOtherOnes (r .rank) (pivotsOf r) (rowsOf (r .rows)) ⌝ }
+    ensures ascending { λ r. ⌜ Ascending (r .rank) (pivotsOf r) ⌝ }
 {
-    let rows = first_rows(matrix, WIDTH);
-    let k = blocks::length_of(rows);
-    by_columns(m, rows, blocks::identity(k))
+    let k = blocks::length_of(matrix);
+    by_columns(m, matrix, blocks::identity(k))
 }
 
 pub fn rank(m: usize, matrix: Block) -> usize
     ensures { λ r. ⌜ r ≡ rankOf m (rowsOf matrix) ⌝ }
 {
-    let r = by_columns(m, matrix, matrix);
+    let r = row_reduce_with_transform(m, matrix);
     r.rank
 }
 

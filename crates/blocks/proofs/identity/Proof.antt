@@ -1,21 +1,29 @@
 -- `identity` writes the unit rows one by one, by `units-at`.
 -- Assumes nothing.
 use mathlib.Core.Path.{_≡_, refl, sym, ap, _∙_}
-use Prim.Native.Nat.{_-_, _≤_, _<_}
-use lib.ListN.{length, take, length-set}
+use mathlib.Core.List.{List, map}
+use Prim.Native.Nat.{ℕ, _-_, _%_, _≤_, _<_}
+use lib.ListN.{length, take, length-map, length-set}
 use native.Mathlib.Omega.{arith}
-use Rattle.binar.proofs.Ones.{unit-is}
+use Rattle.binar.proofs.Widths.{unit-kept}
 use Rattle.blocks.proofs.Units.{units-length, units-at}
-use Rattle.blocks.proofs.Values.{write-next, write-end, unmapped}
+use Rattle.blocks.proofs.Values.{map-get, write-next, write-end, unmapped}
 use Rattle.blocks.specs.Blocks.{room, vals, rowsOf}
-use Rattle.binar.specs.Rows.{width}
+use Rattle.binar.specs.Rows.{rowBound}
 use Rattle.blocks.specs.Matrices.{units}
 use borrow.Author.Needs.{needs}
 use Rattle.blocks.proofs.identity.Statement.{statement}
 use Rattle.blocks.proofs.identity.Tie as tie
 
+-- the unit rows, as far as a row has columns
+abbrev kept : ℕ → List ℕ
+kept k = map (λ u. u % rowBound) (units k)
+
+kept-length : (k : ℕ) → length (kept k) ≡ k
+kept-length k = length-map (units k) (λ u. u % rowBound) ∙ units-length k
+
 abbrev Inv-loop : tie.InvT-loop
-Inv-loop m k n₀ i₀ n i = (i ≤ k) × (k ≤ width) × (length (n .rows) ≡ room) × (take i (vals (n .rows)) ≡ take i (units k))
+Inv-loop m k n₀ i₀ n i = (i ≤ k) × (k ≤ room) × (length (n .rows) ≡ room) × (take i (vals (n .rows)) ≡ take i (kept k))
 
 abbrev μ-loop : tie.MeasureT-loop
 μ-loop m k n₀ i₀ n i = k - i
@@ -52,8 +60,9 @@ loop-again c =
       search needs,
       at .inv .1,
       simp length-set (at .inv .2),
-      write-next (units k) (at .n .rows) (at .i) (c .unit .result) (omega (arith, units-length k)) (omega (arith, at .inv .2)) (at .inv .3)
-          (c .unit .ensures ∙ unit-is (at .i) (omega arith) ∙ sym (units-at (at .i) k h)),
+      write-next (kept k) (at .n .rows) (at .i) (c .unit .result) (omega (arith, kept-length k)) (omega (arith, at .inv .2)) (at .inv .3)
+          (c .unit .ensures ∙ unit-kept (at .i)
+          ∙ sym (map-get (λ u. u % rowBound) (units k) (at .i) 0 0 (omega (arith, units-length k)) ∙ ap (λ u. u % rowBound) (units-at (at .i) k h))),
     )
 
 returns : tie.Need-returns Inv-loop μ-loop
@@ -61,7 +70,7 @@ unfolding rowsOf
 returns c =
     let at = c .before .loop in
     let k = c .before .before .before .lesser in
-    write-end (units (k .result)) (at .n .rows) (at .i) (k .result) (omega arith) (sym (units-length (k .result))) (at .inv .3) ∙ ap units (k .ensures)
+    write-end (kept (k .result)) (at .n .rows) (at .i) (k .result) (omega arith) (sym (kept-length (k .result))) (at .inv .3) ∙ ap kept (k .ensures)
 
 pub identity-spec : {M : Type 1} → statement M
 identity-spec =

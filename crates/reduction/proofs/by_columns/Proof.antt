@@ -8,7 +8,7 @@ use mathlib.Core.Logic.{⊎-elim}
 use Prim.Native.Nat.{ℕ, _+_, _-_, _≤_, _<_}
 use native.Mathlib.Nat.{sub-zero}
 use lib.Dec.{eqb}
-use lib.ListN.{length, getD}
+use lib.ListN.{length, getD, set, take, replicate, length-set}
 use Rattle.binar.specs.Bits.{bit, select, _⊕_}
 use Rattle.binar.specs.Rows.{val}
 use Rattle.binar.specs.inner.Blank.{blank}
@@ -16,13 +16,14 @@ use Rattle.blocks.specs.declared.Block.{Block}
 use Rattle.blocks.specs.Blocks.{room, rowsOf}
 use Rattle.blocks.proofs.Values.{rows-get, rows-fit, unmapped}
 use Rattle.symplectic.specs.Picks.{addBoth}
-use Rattle.reduction.specs.Columns.{columns}
+use Rattle.reduction.specs.Columns.{unreduced, columns}
+use Rattle.reduction.specs.Pivots.{pivotsOf}
 use Rattle.reduction.specs.inner.Sweeps.{halves, swept}
 use Rattle.reduction.proofs.Flat.{columns-done}
 use Rattle.reduction.proofs.Sweep.{swept-zero, swept-length, swept-ahead, swept-write}
 use Rattle.reduction.proofs.TwoLists.{both-none}
 use Rattle.reduction.proofs.Loops.{column-done}
-use Rattle.reduction.proofs.Crossed.{written-is, crossed, crossed-is, crossed-length, crossed-first, fewer, carried}
+use Rattle.reduction.proofs.Crossed.{written-is, crossed, crossed-is, crossed-length, crossed-first, pivot-next, fewer, carried}
 use native.Mathlib.Omega.{arith}
 use borrow.Author.Needs.{needs}
 use Rattle.reduction.proofs.by_columns.Statement.{statement}
@@ -30,22 +31,23 @@ use Rattle.reduction.proofs.by_columns.Tie as tie
 
 -- the rows before i have been swept
 abbrev Inv-loop2 : tie.InvT-loop2
-Inv-loop2 m k a₀ t₀ p c j v w i₀ a t i =
+Inv-loop2 m k a₀ t₀ pivots p c j v w i₀ a t i =
     (i ≤ k) × (length (rowsOf a₀) ≡ k) × (length (rowsOf t₀) ≡ k) × (val v ≡ getD (rowsOf a₀) p 0) × (val w ≡ getD (rowsOf t₀) p 0)
     × (rowsOf a ≡ swept 0 _⊕_ (λ x. bit c (getD (rowsOf a₀) x 0)) p i (rowsOf a₀))
     × (rowsOf t ≡ swept 0 _⊕_ (λ x. bit c (getD (rowsOf a₀) x 0)) p i (rowsOf t₀))
 
 abbrev μ-loop2 : tie.MeasureT-loop2
-μ-loop2 m k a₀ t₀ p c j v w i₀ a t i = k - i
+μ-loop2 m k a₀ t₀ pivots p c j v w i₀ a t i = k - i
 
+-- the pivots before p have been written
 abbrev Inv-loop : tie.InvT-loop
-Inv-loop m k a₀ t₀ p₀ c₀ a t p c =
-    (c ≤ m) × (k ≤ room) × (length (rowsOf a) ≡ k) × (length (rowsOf t) ≡ k) × (p ≤ k)
-    × (columns (0, 0) addBoth (λ i a. bit i (a .0)) (m - c) c (halves p (zip (rowsOf a) (rowsOf t)))
-    ≡ columns (0, 0) addBoth (λ i a. bit i (a .0)) m 0 (halves p₀ (zip (rowsOf a₀) (rowsOf t₀))))
+Inv-loop m k a₀ t₀ pivots₀ p₀ c₀ a t pivots p c =
+    (c ≤ m) × (k ≤ room) × (length (rowsOf a) ≡ k) × (length (rowsOf t) ≡ k) × (p ≤ k) × (length pivots ≡ room)
+    × (columns (0, 0) addBoth (λ i a. bit i (a .0)) (m - c) c (halves p (take p pivots) (zip (rowsOf a) (rowsOf t)))
+    ≡ columns (0, 0) addBoth (λ i a. bit i (a .0)) m 0 (unreduced (zip (rowsOf a₀) (rowsOf t₀))))
 
 abbrev μ-loop : tie.MeasureT-loop
-μ-loop m k a₀ t₀ p₀ c₀ a t p c = m - c
+μ-loop m k a₀ t₀ pivots₀ p₀ c₀ a t pivots p c = m - c
 
 length-of-requires : tie.Need-length-of-requires Inv-loop2 μ-loop2 Inv-loop μ-loop
 length-of-requires c κs = search needs
@@ -60,7 +62,8 @@ loop-holds c =
       sym e,
       omega (arith, e, c .before .pre),
       search needs,
-      ap (λ (k : ℕ). columns (0, 0) addBoth (λ i a. bit i (a .0)) k 0 (halves 0 (zip (rowsOf (s .rows)) (rowsOf (s .transform))))) (sub-zero (s .m)),
+      search needs,
+      ap (λ (k : ℕ). columns (0, 0) addBoth (λ i a. bit i (a .0)) k 0 (unreduced (zip (rowsOf (s .rows)) (rowsOf (s .transform))))) (sub-zero (s .m)),
     )
 
 first-with-requires : tie.Need-first-with-requires Inv-loop2 μ-loop2 Inv-loop μ-loop
@@ -211,6 +214,12 @@ loop2-again c =
           (beside .ensures ∙ ap (λ (u : ℕ). select u (not (eqb i p) && b .result) (u ⊕ w)) (rows-get (at .t) i g)),
     )
 
+mul-pivots : tie.Need-mul-pivots Inv-loop2 μ-loop2 Inv-loop μ-loop
+mul-pivots c = search needs
+
+array-write-pivots : tie.Need-array-write-pivots Inv-loop2 μ-loop2 Inv-loop μ-loop
+array-write-pivots c = search needs
+
 add-p : tie.Need-add-p Inv-loop2 μ-loop2 Inv-loop μ-loop
 add-p c = search needs
 
@@ -229,8 +238,9 @@ loop-again c =
     let j = f .result in
     let R = rowsOf (from .a) in
     let T = rowsOf (from .t) in
+    let ps = take (from .p) (from .pivots) in
     let size : length R ≡ length T = from .inv .2 ∙ sym (from .inv .3) in
-    let P : Block → Block → ℕ → Type 0 = λ a t p. Inv-loop (s .m) k (s .rows) (s .transform) 0 0 a t p (from .c + 1) in
+    let P : Block → Block → List ℕ → ℕ → Type 0 = λ a t pivots p. Inv-loop (s .m) k (s .rows) (s .transform) (replicate room 0) 0 0 a t pivots p (from .c + 1) in
     ⊎-elim
     (λ w.
     let at = w .5 in
@@ -242,35 +252,41 @@ loop-again c =
     let ends : at .i ≡ k = omega (arith, at .inv .0) in
     let r₂ = at .inv .5 ∙ ap (λ (i : ℕ). swept 0 _⊕_ has (from .p) i (rowsOf a₁)) (ends ∙ sym (at .inv .1)) in
     let t₂ = at .inv .6 ∙ ap (λ (i : ℕ). swept 0 _⊕_ has (from .p) i (rowsOf t₁)) (ends ∙ sym (at .inv .2)) in
-    let done = column-done (from .c) (from .p) j R T (rowsOf a₁) (rowsOf t₁) (rowsOf (at .a)) (rowsOf (at .t)) size
+    let done = column-done (from .c) (from .p) j ps R T (rowsOf a₁) (rowsOf t₁) (rowsOf (at .a)) (rowsOf (at .t)) size
     (record { from = f .ensures .0; inside = g; before = f .ensures .2; at = f .ensures .3 g })
     (crossed-is (from .a) (from .p) j h g) (crossed-is (from .t) (from .p) j (omega arith) (omega arith)) r₂ t₂ in
     let long = ap length (at .inv .5) ∙ swept-length 0 _⊕_ has (from .p) (at .i) (rowsOf a₁) ∙ at .inv .1 in
-    carried P (at .a) (at .t) (c .if1 .a) (c .if1 .t) (from .p + 1) (c .if1 .p) (w .7) (w .8) (w .9) (
+    let pivots = set (from .pivots) (from .p) (from .c) in
+    let more = pivot-next (from .pivots) (from .p) (from .c) (omega (arith, from .inv .5)) in
+    carried P (at .a) (at .t) (c .if1 .a) (c .if1 .t) pivots (c .if1 .pivots) (from .p + 1) (c .if1 .p) (w .7) (w .8) (w .9) (w .10) (
       search needs,
       from .inv .1,
       long,
       sym (done .0) ∙ long,
       omega (arith, done .1, long),
-      fewer (s .m) (from .c) (from .p) (from .p + 1) R T (rowsOf (at .a)) (rowsOf (at .t)) _ (omega arith) (from .inv .5) (done .2),
+      length-set (from .pivots) (from .p) (from .c) ∙ from .inv .5,
+      fewer (s .m) (from .c) (from .p) (from .p + 1) ps (take (from .p + 1) pivots) R T (rowsOf (at .a)) (rowsOf (at .t)) _ (omega arith) (from .inv .6)
+          (ap (λ (l : List ℕ). halves (from .p + 1) l (zip (rowsOf (at .a)) (rowsOf (at .t)))) more ∙ done .2),
     ))
     (λ w.
-    carried P (from .a) (from .t) (c .if1 .a) (c .if1 .t) (from .p) (c .if1 .p) (w .1) (w .2) (w .3) (
+    carried P (from .a) (from .t) (c .if1 .a) (c .if1 .t) (from .pivots) (c .if1 .pivots) (from .p) (c .if1 .p) (w .1) (w .2) (w .3) (w .4) (
       search needs,
       from .inv .1,
       from .inv .2,
       from .inv .3,
       from .inv .4,
-      fewer (s .m) (from .c) (from .p) (from .p) R T R T _ (omega arith) (from .inv .5)
-          (sym (both-none (from .c) (from .p) R T size (λ i a l. f .ensures .2 i a (omega (arith, w .0 .left, from .inv .2))))),
+      from .inv .5,
+      fewer (s .m) (from .c) (from .p) (from .p) ps ps R T R T _ (omega arith) (from .inv .6)
+          (sym (both-none (from .c) (from .p) ps R T size (λ i a l. f .ensures .2 i a (omega (arith, w .0 .left, from .inv .2))))),
     ))
     (c .if1 .came)
 
 returns : tie.Need-returns Inv-loop2 μ-loop2 Inv-loop μ-loop
+unfolding pivotsOf
 returns c =
     let at = c .before .loop in
-    let h = halves (at .p) (zip (rowsOf (at .a)) (rowsOf (at .t))) in
-    (at .inv .2 ∙ sym (at .inv .3), omega (arith, at .inv .2), sym (columns-done (0, 0) addBoth (λ i a. bit i (a .0)) (c .before .before .before .args .m) (at .c) h (omega arith)) ∙ at .inv .5)
+    let h = halves (at .p) (take (at .p) (at .pivots)) (zip (rowsOf (at .a)) (rowsOf (at .t))) in
+    (at .inv .2 ∙ sym (at .inv .3), omega (arith, at .inv .2), sym (columns-done (0, 0) addBoth (λ i a. bit i (a .0)) (c .before .before .before .args .m) (at .c) h (omega arith)) ∙ at .inv .6)
 
 pub by-columns-spec : {M : Type 1} → statement M
 by-columns-spec =
@@ -316,6 +332,8 @@ by-columns-spec =
     add-i
     loop2-less
     loop2-again
+    mul-pivots
+    array-write-pivots
     add-p
     add-c
     loop-less

@@ -50,9 +50,9 @@ returns c =
     let R = rowsOf (r .rows) in
     let T = rowsOf (r .transform) in
     let size = matrix-length a (long (c .before .before .before .before .before .before)) in (
-      c .before .before .first-rows .ensures ∙ basis-end n (qubits a) (r .rank) (matrix a) M R T size (qubits-le a) same is (e .0) (e .1) (e .2),
+      c .before .before .first-rows .ensures ∙ basis-end n (qubits a) (r .rank) (matrix a) M R T size (qubits-le a) same is (e .0) (e .1 .0) (e .1 .1 .0 .0),
       c .times-transposed .ensures ∙ ap₂ (λ B S. timesTransposed B (take width S)) (c .before .before .first-rows .ensures) (c .before .first-rows2 .ensures)
-          ∙ core-end n (qubits a) (r .rank) (matrix a) M R T size (qubits-le a) same is (e .0) (e .1) (e .2),
+          ∙ core-end n (qubits a) (r .rank) (matrix a) M R T size (qubits-le a) same is (e .0) (e .1 .0) (e .1 .1 .0 .0),
     )
 
 pub residue-core-spec : {M : Type 1} → statement M

@@ -7,15 +7,16 @@ use lib.Dec.{eqb}
 use lib.ListN.{take, drop, getD, set}
 use Rattle.blocks.specs.Blocks.{rowsOf}
 use Rattle.reduction.specs.declared.Reduction.{Reduction}
-use Rattle.reduction.specs.Columns.{Halves}
+use Rattle.reduction.specs.Columns.{Echelon}
+use Rattle.reduction.specs.Pivots.{pivotsOf}
 
--- all rows with the pivot row at p
-abbrev pub halves : {A : Type 0} → ℕ → List A → Halves A
-halves p l = record { up = take p l; down = drop p l }
+-- all rows with the pivot row at p, and the pivots
+abbrev pub halves : {A : Type 0} → ℕ → List ℕ → List A → Echelon A
+halves p ps l = record { up = take p l; down = drop p l; pivots = ps }
 
 -- the rows of a reduction beside those of its transform, with the pivot row at the rank
-abbrev pub halvesOf : Reduction → Halves (ℕ × ℕ)
-halvesOf r = halves (r .rank) (zip (rowsOf (r .rows)) (rowsOf (r .transform)))
+abbrev pub echelonOf : Reduction → Echelon (ℕ × ℕ)
+echelonOf r = halves (r .rank) (pivotsOf r) (zip (rowsOf (r .rows)) (rowsOf (r .transform)))
 
 module _ {A : Type 0} (d : A) (add : A → A → A) (p : ℕ) where
   -- row i, where it is not the pivot row and has the column
