@@ -1,27 +1,20 @@
 //! Microseconds of whole calls, minimal and greedy, beside the Rust source where it is at hand: on the same layers, in one
 //! process, the two sides in turn. Both sides' lists are compared before they are timed.
-use std::hint::black_box;
 use std::time::Instant;
 
+mod clock;
+mod families;
 mod layers;
 mod ours;
 mod source;
 
+use clock::Clock;
+use families::FAMILIES;
 use source::Source;
 
 const BUDGET: u64 = 1_000_000;
 const LAYERS: usize = 8;
 const ROUNDS: usize = 25;
-
-/// A kind of layer: its name, its qubit counts, and its rows for a seed.
-type Family = (&'static str, &'static [usize], fn(usize, u64) -> Vec<u64>);
-
-const FAMILIES: [Family; 4] = [
-    ("uniform", &[4, 8, 16, 32], layers::uniform),
-    ("gates", &[8, 16, 32], |n, seed| ours::gate_rows(n, &layers::circuit(n, seed))),
-    ("swaps", &[8, 16, 32], |n, seed| ours::gate_rows(n, &layers::swaps(n, seed))),
-    ("permuted", &[4, 6, 8, 12], layers::permuted),
-];
 
 /// A layer whose search stays within the budget, with what its calls answer.
 struct Layer {
@@ -53,30 +46,6 @@ fn layer(n: usize, rows: Vec<u64>) -> Option<Layer> {
         assert_eq!(s.greedy_list(), out[..count], "the greedy lists differ");
     }
     Some(Layer { n, rows, source, looks, draws })
-}
-
-/// The best time of a call so far, in microseconds; samples grow until they are long enough to be timed.
-struct Clock {
-    calls: u32,
-    best: f64,
-}
-
-impl Clock {
-    fn new() -> Self {
-        Clock { calls: 1, best: f64::MAX }
-    }
-
-    fn sample<T>(&mut self, mut call: impl FnMut() -> T) {
-        let start = Instant::now();
-        for _ in 0..self.calls {
-            black_box(call());
-        }
-        let micros = start.elapsed().as_secs_f64() * 1e6;
-        self.best = self.best.min(micros / self.calls as f64);
-        if micros < 250.0 {
-            self.calls *= 2;
-        }
-    }
 }
 
 /// The clocks of a layer: ours, the source's, and the source's other figure (the signed call; the stand-in's part).

@@ -1,5 +1,8 @@
 // Runs bench examples of the calls that are not starred. A line says the call, its number and its count, and for gates the rows written; for minimal lists also the looks.
+// Then reductions of residues: the rank, the pivots and the rows.
+use blocks::ROOM;
 use libc::STDOUT_FILENO;
+use reduction::Reduction;
 use symplectic::Figures;
 
 fn print_answer(name: &[u8], a: Figures) {
@@ -75,6 +78,29 @@ fn minimals() {
     );
 }
 
+fn print_pivots(r: Reduction) {
+    for i in 0..blocks::lesser(r.rank, ROOM) {
+        io::write_all(STDOUT_FILENO, b" ");
+        io::print_decimal(STDOUT_FILENO, r.pivots[i] as u64);
+    }
+}
+
+// The reduction of the residue of an action on 2 qubits.
+fn reduced(name: &[u8], rows: &[u64]) {
+    let a = symplectic::from_words(2, rows);
+    let r = reduction::row_reduce_with_transform(4, reduction::residue(a));
+    io::write_all(STDOUT_FILENO, name);
+    io::write_all(STDOUT_FILENO, b": rank ");
+    io::print_decimal(STDOUT_FILENO, r.rank as u64);
+    io::write_all(STDOUT_FILENO, b", pivots");
+    print_pivots(r);
+    io::write_all(STDOUT_FILENO, b", rows");
+    let mut out = [0u64; 4];
+    blocks::store(2, r.rows, &mut out);
+    print_rows(&out);
+    io::write_all(STDOUT_FILENO, b"\n");
+}
+
 fn main() {
     rebuild_empty(b"rebuild 32", 32);
     rebuild_empty(b"rebuild 33", 33);
@@ -87,4 +113,6 @@ fn main() {
     sequence(b"gates 2, SWAP 0 1 and 2 bytes more", &[5, 0, 1, 9, 9]);
     sequence(b"gates 2, 2 bytes", &[9, 9]);
     minimals();
+    reduced(b"reduction 2, CX 0 1", &[3, 2, 4, 12]);
+    reduced(b"reduction 2, rows 1 3 c b", &[1, 3, 12, 11]);
 }

@@ -66,14 +66,14 @@ module _ (m : ℕ) (M : List ℕ) where
 
 -- ---- of an answer
 
--- its rank, pivots and rows
-abbrev pub Pivoted : ℕ → List ℕ → List ℕ → Type 0
-Pivoted r ps R = FirstOnes r ps R × NoOtherOnes r ps R × Ascending r ps
+-- its rank, pivots and rows, of a matrix reduced by m columns
+abbrev pub Pivoted : ℕ → ℕ → List ℕ → List ℕ → Type 0
+Pivoted m r ps R = FirstOnes r ps R × NoOtherOnes r ps R × Ascending r ps × All (λ p. p < m) ps
 
 pub pivoted : (m : ℕ) (M : List ℕ) (r : ℕ) (ps R : List ℕ)
-    → r ≡ rank m M → ps ≡ rowReduceWithTransform m M .pivots → R ≡ map (λ a. a .0) (rows (rowReduceWithTransform m M)) → Pivoted r ps R
+    → r ≡ rank m M → ps ≡ rowReduceWithTransform m M .pivots → R ≡ map (λ a. a .0) (rows (rowReduceWithTransform m M)) → Pivoted m r ps R
 pivoted m M r ps R er ep eR =
-    subst (λ k. Pivoted k ps R) (sym (er ∙ rank-up m M))
-    (subst (λ l. Pivoted (length (reduced m M .up)) l R) (sym (ep ∙ pivots-reduced m M))
-    (subst (λ l. Pivoted (length (reduced m M .up)) (reduced m M .pivots) l) (sym (eR ∙ all-reduced m M))
-    (first-ones m M, no-other-ones m M, ascending m M)))
+    subst (λ k. Pivoted m k ps R) (sym (er ∙ rank-up m M))
+    (subst (λ l. Pivoted m (length (reduced m M .up)) l R) (sym (ep ∙ pivots-reduced m M))
+    (subst (λ l. Pivoted m (length (reduced m M .up)) (reduced m M .pivots) l) (sym (eR ∙ all-reduced m M))
+    (first-ones m M, no-other-ones m M, ascending m M, pivots-lt m M)))

@@ -13,7 +13,7 @@ ghost use lib.ListN.{getD, take, drop, length};
 ghost use Rattle.binar.specs.Bits.{bit as bitOf, _⊕_, select};
 ghost use Rattle.binar.specs.Rows.{val, width, rowBound, unit as unitOf};
 ghost use Rattle.blocks.specs.Blocks.{rowsOf};
-ghost use Rattle.blocks.specs.Matrices.{dots as dotsOf};
+ghost use Rattle.blocks.specs.Matrices.{dots as dotsOf, All};
 ghost use Rattle.symplectic.specs.Actions.{maxQubits, qubits, matrix};
 ghost use Rattle.symplectic.specs.Picks.{addBoth};
 ghost use Rattle.reduction.specs.Columns.{unreduced, rows as allRows, columns, rank as rankOf, rowReduceWithTransform};
@@ -127,6 +127,7 @@ pub fn row_reduce_with_transform(m: usize, matrix: Block) -> Reduction
     ensures first_ones { λ r. ⌜ FirstOnes (r .rank) (pivotsOf r) (rowsOf (r .rows)) ⌝ }
     ensures no_other_ones { λ r. ⌜ NoOtherOnes (r .rank) (pivotsOf r) (rowsOf (r .rows)) ⌝ }
     ensures ascending { λ r. ⌜ Ascending (r .rank) (pivotsOf r) ⌝ }
+    ensures within { λ r. ⌜ All (λ p. p < m) (pivotsOf r) ⌝ }
 {
     let k = blocks::length_of(matrix);
     by_columns(m, matrix, blocks::identity(k))
@@ -180,7 +181,7 @@ fn other_half(i: usize, n: usize) -> usize
 }
 
 // I + F with the upper and lower n rows exchanged.
-fn residue(a: Action) -> Block
+pub fn residue(a: Action) -> Block
     ensures { λ r. ⌜ rowsOf r ≡ residueOf (qubits a) (matrix a) ⌝ }
 {
     let n = symplectic::qubits_of(a);

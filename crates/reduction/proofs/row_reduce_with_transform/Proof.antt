@@ -51,7 +51,7 @@ returns c =
     let pivots = pivots-end (s .m) M (r .rank) (pivotsOf r) R T (e .0) is in
     let count = rank-end (s .m) M (r .rank) (pivotsOf r) R T (e .0) is (e .1) in
     let promises = pivoted (s .m) M (r .rank) (pivotsOf r) R count pivots rows in
-    (rows, (transform-end (s .m) M (r .rank) (pivotsOf r) R T (e .0) is, ((count, ap length pivots ∙ sym count), (pivots, (promises .0, (promises .1, promises .2))))))
+    (rows, (transform-end (s .m) M (r .rank) (pivotsOf r) R T (e .0) is, ((count, ap length pivots ∙ sym count), (pivots, (promises .0, (promises .1, (promises .2, promises .3)))))))
 
 pub row-reduce-with-transform-spec : {M : Type 1} → statement M
 row-reduce-with-transform-spec = tie.close (tie.spec length-of-requires identity-requires by-columns-requires returns)
