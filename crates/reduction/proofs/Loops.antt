@@ -8,7 +8,7 @@ use Prim.Native.Nat.{ℕ, suc, _+_, _*_, _^_, _≤_, _<_}
 use native.Mathlib.Omega.{arith}
 use native.Mathlib.Nat.{pow-suc, eq-or-lt-of-le}
 use native.Mathlib.Numerals.{add-one}
-use lib.ListN.{length, take, getD, length-map, take-append-drop}
+use lib.ListN.{length, take, getD, take-append-drop}
 use lib.Seq.{take-all, take-length, take-suc, length-take-le}
 use Rattle.binar.specs.Bits.{select, digit, bit, dot, _⊕_}
 use Rattle.binar.proofs.Digits.{digit-lt}

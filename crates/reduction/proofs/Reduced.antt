@@ -1,16 +1,15 @@
 -- A matrix reduced by its first m columns: its span, its rank, its pivots, and that there is one reduced basis for each span.
 -- Assumes nothing.
-use mathlib.Core.Path.{_≡_, refl, sym, ap, ap₂, _∙_, subst}
-use mathlib.Core.Bool.{Bool, true, false}
-use mathlib.Core.List.{List, [], _∷_, map}
-use Prim.Native.Nat.{ℕ, zero, suc, _+_, _/_, _^_, _≤_, _<_, suc-le-suc}
+use mathlib.Core.Path.{_≡_, sym, ap, ap₂, _∙_, subst}
+use mathlib.Core.Bool.{Bool, false}
+use mathlib.Core.List.{List, [], _∷_}
+use Prim.Native.Nat.{ℕ, zero, suc, _+_, _/_, _^_, _≤_, _<_}
 use native.Mathlib.Omega.{arith}
-use native.Mathlib.Nat.{le-refl, le-of-suc-le-suc, not-suc-le-zero, zero-lt-suc}
-use lib.Count.{trailingZeros, under}
+use native.Mathlib.Nat.{le-refl, le-of-suc-le-suc, not-suc-le-zero}
 use lib.ListN.{length, getD, length-append}
 use lib.Pow.{pow-pos}
-use Rattle.binar.specs.Bits.{_⊻_, digit, odd, bit, _⊕_}
-use Rattle.binar.proofs.Digits.{low-digit, bit-suc}
+use Rattle.binar.specs.Bits.{_⊻_, odd, bit, _⊕_}
+use Rattle.binar.proofs.Digits.{bit-suc}
 use Rattle.binar.proofs.Sums.{bit-sum, bit-zero-is-odd, same-bits, bit-of-zero}
 use Rattle.blocks.specs.Matrices.{times, All, units}
 use Rattle.blocks.proofs.All.{All·map, All·map₂, All·append, All·left, All·right, All·at}
