@@ -1,5 +1,5 @@
--- `by_columns` exchanges the first row that has the column up and sweeps row after row, by `swept-write` and `column-done`; where there
--- is none it changes nothing, by `both-none`. Column follows column by `columns-next`.
+-- `by_columns` exchanges the first row that has the column up and sweeps row after row, by `swept-write` and `column-done`, and writes the
+-- pivot, by `pivot-next`; where there is none it changes nothing, by `both-none`. Column follows column by `fewer`.
 -- Assumes nothing.
 use mathlib.Core.Path.{_≡_, sym, ap, _∙_}
 use mathlib.Core.Bool.{Bool, not, _&&_}
