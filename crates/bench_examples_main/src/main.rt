@@ -1,8 +1,6 @@
 // Runs bench examples of the calls that are not starred. A line says the call, its number and its count, and for gates the rows written; for minimal lists also the looks.
 // Then reductions of residues: the rank, the pivots and the rows.
-use blocks::ROOM;
 use libc::STDOUT_FILENO;
-use reduction::Reduction;
 use symplectic::Figures;
 
 fn print_answer(name: &[u8], a: Figures) {
@@ -78,14 +76,12 @@ fn minimals() {
     );
 }
 
-fn print_pivots(r: Reduction) {
-    for i in 0..blocks::lesser(r.rank, ROOM) {
-        io::write_all(STDOUT_FILENO, b" ");
-        io::print_decimal(STDOUT_FILENO, r.pivots[i] as u64);
-    }
+fn print_first(k: usize, rows: &[u64]) {
+    let n = blocks::lesser(k, rows.len());
+    print_rows(&rows[..n]);
 }
 
-// The reduction of the residue of an action on 2 qubits.
+// The reduction of the residue of an action on 2 qubits, which has 4 columns.
 fn reduced(name: &[u8], rows: &[u64]) {
     let a = symplectic::from_words(2, rows);
     let r = reduction::row_reduce_with_transform(4, reduction::residue(a));
@@ -93,7 +89,9 @@ fn reduced(name: &[u8], rows: &[u64]) {
     io::write_all(STDOUT_FILENO, b": rank ");
     io::print_decimal(STDOUT_FILENO, r.rank as u64);
     io::write_all(STDOUT_FILENO, b", pivots");
-    print_pivots(r);
+    let p = r.pivots;
+    let pivots = [p[0] as u64, p[1] as u64, p[2] as u64, p[3] as u64];
+    print_first(r.rank, &pivots);
     io::write_all(STDOUT_FILENO, b", rows");
     let mut out = [0u64; 4];
     blocks::store(2, r.rows, &mut out);

@@ -44,3 +44,9 @@ pub All·at : {A : Type 0} (P : A → Type 0) (xs : List A) → All P xs → (i 
 All·at P [] a i d l = absurd (not-suc-le-zero l)
 All·at P (x ∷ xs) a zero d l = a .0
 All·at P (x ∷ xs) a (suc i) d l = All·at P xs (a .1) i d (le-of-suc-le-suc l)
+
+-- by any index, where it holds of the default
+pub All·getD : {A : Type 0} (P : A → Type 0) (xs : List A) → All P xs → (d : A) → P d → (i : ℕ) → P (getD xs i d)
+All·getD P [] a d h i = h
+All·getD P (x ∷ xs) a d h zero = a .0
+All·getD P (x ∷ xs) a d h (suc i) = All·getD P xs (a .1) d h i

@@ -87,14 +87,20 @@ take-counted zero l = refl
 take-counted (suc n) [] = refl
 take-counted (suc n) (x ∷ l) = ap (λ (m : List ℕ). x ∷ m) (take-counted n l)
 
+-- a member written behind the first i
+pub set-next : (l : List ℕ) (i v : ℕ) → i < length l → take (i + 1) (set l i v) ≡ take i l ++ (v ∷ [])
+set-next l i v h = ap (λ (j : ℕ). take j (set l i v)) (add-one i) ∙ take-suc-set l i v h
+
+pub taken-next : (l : List Row) (i : ℕ) (v : Row) → i < length l → take (i + 1) (vals (set l i v)) ≡ take i (vals l) ++ (val v ∷ [])
+taken-next l i v h = ap (take (i + 1)) (vals-set l i v) ∙ set-next (vals l) i (val v) (omega (arith, vals-length l))
+
 -- one row more behind those that there are, and what there is no room for
 pub push-more : (b : Block) (k : ℕ) (v : Row) → length (b .rows) ≡ room → k ≡ length (rowsOf b) → k < room → take (k + 1) (vals (set (b .rows) k v)) ≡ take room (rowsOf b ++ (val v ∷ []))
 unfolding rowsOf
 push-more b k v long e h =
     let l = vals (b .rows) in
     let n = take (b .count) l in
-    ap₂ take (add-one k) (vals-set (b .rows) k v)
-    ∙ take-suc-set l k (val v) (omega (arith, vals-length (b .rows)))
+    taken-next (b .rows) k v (omega arith)
     ∙ ap (λ (m : List ℕ). m ++ (val v ∷ [])) (ap (λ (j : ℕ). take j l) e ∙ take-counted (b .count) l)
     ∙ sym (take-all room (n ++ (val v ∷ [])) (omega (arith, length-append n (val v ∷ []))))
 
@@ -103,10 +109,6 @@ push-full b v e = sym (take-at (rowsOf b) (val v ∷ []) room e)
 
 pub push-fits : (l : List ℕ) (v : ℕ) → length l < room → take room (l ++ (v ∷ [])) ≡ l ++ (v ∷ [])
 push-fits l v h = take-all room (l ++ (v ∷ [])) (omega (arith, length-append l (v ∷ [])))
-
--- a row written behind the first i
-pub taken-next : (l : List Row) (i : ℕ) (v : Row) → i < length l → take (i + 1) (vals (set l i v)) ≡ take i (vals l) ++ (val v ∷ [])
-taken-next l i v h = ap₂ take (add-one i) (vals-set l i v) ∙ take-suc-set (vals l) i (val v) (omega (arith, vals-length l))
 
 -- a block written from its start: row i of m behind the first i, then as many as m has
 pub write-next : (m : List ℕ) (l : List Row) (i : ℕ) (v : Row) → i < length m → i < length l → take i (vals l) ≡ take i m → val v ≡ getD m i 0 → take (i + 1) (vals (set l i v)) ≡ take (i + 1) m

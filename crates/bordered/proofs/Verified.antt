@@ -9,7 +9,7 @@ use native.Mathlib.Omega.{arith}
 use lib.Dec.{eqb}
 use lib.ListN.{length}
 use borrow.Author.Tests.{eqb-true, eqb-false, not-true}
-use Rattle.blocks.specs.Matrices.{times, units, All}
+use Rattle.blocks.specs.Matrices.{times, All}
 use Rattle.blocks.proofs.All.{All·map}
 use Rattle.symplectic.specs.Turns.{allOf, product}
 use Rattle.symplectic.specs.Replies.{fitAll}
@@ -19,8 +19,7 @@ use Rattle.symplectic.proofs.Questions.{fit-all}
 use Rattle.symplectic.specs.Picks.{when}
 use Rattle.reduction.specs.Residue.{basis, core, form}
 use Rattle.reduction.proofs.Core.{basis-size}
-use Rattle.family.specs.Family.{borderedFamily}
-use Rattle.bordered.specs.Checks.{vectors, validate, sameRows, verifiesBordered, checkedList, borderedList}
+use Rattle.bordered.specs.Checks.{vectors, validate, sameRows, verifiesBordered, checkedList, coreFamily, borderedList}
 
 pub rows-equal : (xs ys : List ℕ) → sameRows xs ys ≡ true → xs ≡ ys
 rows-equal [] [] e = refl
@@ -55,7 +54,7 @@ abbrev pub Passed : ℕ → List ℕ → Option (List ℕ) → Type 0
 Passed n F none = Unit {0}
 Passed n F (some vs) = Verified n F vs
 
-checked : (n : ℕ) (F : List ℕ) (family : Option (List (ℕ × Bool))) → Passed n F (checkedList n F family)
+checked : (n : ℕ) (F : List ℕ) (family : Option (List (ℕ × Bool))) → Passed n F (checkedList n F (basis n F) (core n F) family)
 unfolding checkedList
 checked n F none = tt
 checked n F (some l) = go (validate r (form (core n F)) l) (verifiesBordered n F r vs) refl
@@ -73,7 +72,7 @@ checked n F (some l) = go (validate r (form (core n F)) l) (verifiesBordered n F
 
 pub bordered-passed : (n : ℕ) (F : List ℕ) → Passed n F (borderedList n F)
 unfolding borderedList
-bordered-passed n F = let r = length (basis n F) in checked n F (borderedFamily (form (core n F)) r (units r))
+bordered-passed n F = checked n F (coreFamily (core n F))
 
 -- what is verified fits 2n + 1 words
 pub verified-room : (n : ℕ) (F vs : List ℕ) → Verified n F vs → length vs ≤ n + n + 1

@@ -56,15 +56,18 @@ unfoldable pub verifiesBordered : ℕ → List ℕ → ℕ → List ℕ → Bool
 verifiesBordered n F r vs =
     eqb (length vs) (suc r) && (allOf (λ v. not (eqb v 0)) vs && (fitAll (n + n) vs && sameRows (product n vs) F))
 
--- each vector of a family that is validated is multiplied by V, order kept, and these are verified
-unfoldable pub checkedList : ℕ → List ℕ → Option (List (ℕ × Bool)) → Option (List ℕ)
-checkedList n F none = none
-checkedList n F (some l) =
-    let r = length (basis n F) in
-    let vs = map (λ p. times p (basis n F)) (vectors l) in
-    when (validate r (form (core n F)) l && verifiesBordered n F r vs) vs
+-- each vector of a family that is validated on the core E is multiplied by the basis B, order kept, and these are verified
+unfoldable pub checkedList : ℕ → List ℕ → List ℕ → List ℕ → Option (List (ℕ × Bool)) → Option (List ℕ)
+checkedList n F B E none = none
+checkedList n F B E (some l) =
+    let r = length B in
+    let vs = map (λ p. times p B) (vectors l) in
+    when (validate r (form E) l && verifiesBordered n F r vs) vs
 
--- the bordered list, begun from unit vectors; none where the candidate does not pass
+-- the family of a core, begun from unit vectors
+abbrev pub coreFamily : List ℕ → Option (List (ℕ × Bool))
+coreFamily E = borderedFamily (form E) (length E) (units (length E))
+
+-- the bordered list; none where the candidate does not pass
 unfoldable pub borderedList : ℕ → List ℕ → Option (List ℕ)
-borderedList n F =
-    let r = length (basis n F) in checkedList n F (borderedFamily (form (core n F)) r (units r))
+borderedList n F = checkedList n F (basis n F) (core n F) (coreFamily (core n F))

@@ -7,8 +7,10 @@ use family::Construction;
 use symplectic::Action;
 ghost use mathlib.Core.Path.{_≡_};
 ghost use mathlib.Core.Option.{none};
+ghost use Rattle.blocks.specs.Blocks.{rowsOf};
 ghost use Rattle.symplectic.specs.Actions.{qubits, matrix};
-ghost use Rattle.bordered.specs.Checks.{borderedList};
+ghost use Rattle.triangular.specs.Readings.{coreOf};
+ghost use Rattle.bordered.specs.Checks.{checkedList, coreFamily};
 ghost use Rattle.bordered.specs.Readings.{listedOf};
 
 // Whether the candidate passed both checks. A construction that was stuck counts as not passing.
@@ -32,13 +34,11 @@ fn rejected() -> Bordered
     }
 }
 
-// Each vector of a valid family of the action's core times the basis of its residue, where these are verified.
-pub fn bordered_list(a: Action) -> Bordered
-    ensures { λ r. ⌜ listedOf r ≡ borderedList (qubits a) (matrix a) ⌝ }
+// Each vector of a valid family of the core times the basis, where these are verified for the action: its bordered list, if they are the
+// core of the action and the basis of its residue.
+pub fn bordered_list(a: Action, basis: Block, core: Block) -> Bordered
+    ensures { λ r. ⌜ listedOf r ≡ checkedList (qubits a) (matrix a) (rowsOf basis) (rowsOf core) (coreFamily (coreOf core)) ⌝ }
 {
-    let c = reduction::residue_core(a);
-    let basis = c.basis;
-    let core = c.core;
     let f = family::bordered_family(core);
     let construction = f.construction;
     match construction {

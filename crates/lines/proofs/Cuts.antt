@@ -4,11 +4,10 @@ use mathlib.Core.Path.{_≡_, refl, sym, ap, ap₂, _∙_}
 use mathlib.Core.List.{List, [], _∷_, _++_, append-assoc}
 use Prim.Native.Nat.{ℕ, zero, suc, _+_, _-_, _≤_, _<_, min}
 use native.Mathlib.Nat.{add-zero}
-use native.Mathlib.Numerals.{add-one}
 use native.Mathlib.Omega.{arith}
 use lib.ListN.{length, getD, set, take, length-append, length-take}
 use lib.Seq.{take-all, take-at, take-suc, take-suc-set, getD-append-add, length-take-le}
-use Rattle.blocks.proofs.Values.{take-counted}
+use Rattle.blocks.proofs.Values.{take-counted, set-next}
 use Rattle.lines.specs.declared.Line.{Line}
 use Rattle.lines.specs.Bytes.{lineRoom, bytesOf}
 
@@ -45,7 +44,7 @@ bytes-whole l h = take-all lineRoom (bytesOf l) (omega (arith, bytes-length l h)
 -- one byte more, where there is room and where there is none
 pub push-more : (l : List ℕ) (k b : ℕ) → length l ≡ lineRoom → k < lineRoom → take (k + 1) (set l k b) ≡ take lineRoom (take k l ++ (b ∷ []))
 push-more l k b h g =
-    ap (λ (j : ℕ). take j (set l k b)) (add-one k) ∙ take-suc-set l k b (omega arith)
+    set-next l k b (omega arith)
     ∙ sym (take-all lineRoom (take k l ++ (b ∷ [])) (omega (arith, length-append (take k l) (b ∷ []), length-take-le k l (omega arith))))
 
 pub push-full : (l : List ℕ) (k b : ℕ) → length l ≡ lineRoom → lineRoom ≤ k → take k l ≡ take lineRoom (take k l ++ (b ∷ []))

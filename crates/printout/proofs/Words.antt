@@ -6,7 +6,7 @@ use Prim.Native.Nat.{ℕ, zero, suc, _+_, _*_, _<_}
 use native.Mathlib.Omega.{arith}
 use native.Mathlib.Numerals.{add-one}
 use lib.ListN.{length, take, drop, set}
-use lib.Seq.{take-suc-set}
+use Rattle.blocks.proofs.Values.{set-next}
 use Rattle.job.specs.Files.{littleEndian, part, number}
 use Rattle.job.proofs.Numbers.{number-front, number-drop, number-of-part}
 use Rattle.printout.specs.Printout.{wordsOfBytes}
@@ -33,7 +33,7 @@ pub words-more : (file rows : List ℕ) (offset m k v : ℕ) → k < m → k < l
     → take k rows ≡ wordsOfBytes k (part file offset (8 * m)) → take (k + 1) (set rows k v) ≡ wordsOfBytes (k + 1) (part file offset (8 * m))
 words-more file rows offset m k v h g e w =
     let bytes = part file offset (8 * m) in
-    ap (λ (j : ℕ). take j (set rows k v)) (add-one k) ∙ take-suc-set rows k v g
+    set-next rows k v g
     ∙ ap (λ (l : List ℕ). l ++ (v ∷ [])) w
     ∙ ap (λ (x : ℕ). wordsOfBytes k bytes ++ (x ∷ [])) (e ∙ sym (number-of-part file offset (8 * m) (8 * k) 8 (omega arith)))
     ∙ sym (words-next k bytes) ∙ ap (λ (j : ℕ). wordsOfBytes j bytes) (sym (add-one k))

@@ -29,7 +29,7 @@ use Rattle.reduction.specs.Residue.{residue, reduction, basis, transform
 use Rattle.reduction.specs.inner.Plain.{reduced}
 use Rattle.reduction.proofs.Echelon.{Rref}
 use Rattle.reduction.proofs.Reduced.{reduced-rref, reduced-indep, reduced-lt, reduced-out}
-use Rattle.reduction.proofs.Transform.{basis-row-is, basis-transform-lt, basis-reduced, pivots-reduced, rank-up, rank-width}
+use Rattle.reduction.proofs.Transform.{basis-row-is, basis-transform-lt, basis-reduced, pivots-reduced, rank-plain, rank-width}
 use Rattle.reduction.proofs.Forms.{form-transposed, transposed-length}
 
 -- ---- of any action
@@ -47,7 +47,7 @@ unfolding basis reduction
 basis-plain n F = basis-reduced (n + n) (residue n F)
 
 pub basis-rank : (n : ℕ) (F : List ℕ) → length (basis n F) ≡ rank (n + n) (residue n F)
-basis-rank n F = ap length (basis-plain n F) ∙ sym (rank-up (n + n) (residue n F))
+basis-rank n F = ap length (basis-plain n F) ∙ sym (rank-plain (n + n) (residue n F))
 
 pub basis-indep : (n : ℕ) (F : List ℕ) → Indep 𝕎 (basis n F)
 basis-indep n F = subst (Indep 𝕎) (sym (basis-plain n F)) (reduced-indep (n + n) (residue n F))

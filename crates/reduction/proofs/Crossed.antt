@@ -1,11 +1,9 @@
--- A block with a row written, and one whose rows p and j are written over each other; one pivot more and one column less of a reduction.
+-- A block with a row written, and one whose rows p and j are written over each other; one column less of a reduction.
 -- Assumes nothing.
 use mathlib.Core.Path.{_≡_, sym, ap, _∙_, subst}
-use mathlib.Core.List.{List, [], _∷_, _++_, zip}
+use mathlib.Core.List.{List, zip}
 use Prim.Native.Nat.{ℕ, _+_, _-_, _<_}
-use native.Mathlib.Numerals.{add-one}
-use lib.ListN.{length, getD, set, take}
-use lib.Seq.{take-suc-set}
+use lib.ListN.{length, getD, set}
 use Rattle.binar.specs.declared.Row.{Row}
 use Rattle.binar.specs.Bits.{bit}
 use Rattle.binar.specs.Rows.{val}
@@ -37,10 +35,6 @@ module _ (b : Block) (p j : ℕ) (h : p < length (rowsOf b)) (g : j < length (ro
 
   pub crossed-first : val (getD (b .rows) j blank) ≡ getD (rowsOf (crossed b p j)) p 0
   crossed-first = rows-get b j g ∙ sym (ap (λ (l : List ℕ). getD l p 0) crossed-is ∙ exchanged-first p j (rowsOf b) h g)
-
--- a pivot written behind those before it
-pub pivot-next : (l : List ℕ) (p c : ℕ) → p < length l → take (p + 1) (set l p c) ≡ take p l ++ (c ∷ [])
-pivot-next l p c h = ap (λ k. take k (set l p c)) (add-one p) ∙ take-suc-set l p c h
 
 -- one column less is left
 pub fewer : (m c p q : ℕ) (ps qs R T R′ T′ : List ℕ) (all : Echelon (ℕ × ℕ)) → c < m

@@ -2,8 +2,8 @@
 -- Assumes nothing.
 use mathlib.Core.Path.{_≡_, refl, sym, ap, _∙_, subst}
 use mathlib.Core.Bool.{false}
-use mathlib.Core.List.{List, [], _∷_, _++_, map}
-use Prim.Native.Nat.{ℕ, zero, suc, _+_, _-_, _<_}
+use mathlib.Core.List.{List, _++_, map}
+use Prim.Native.Nat.{ℕ, _+_, _-_, _<_}
 use native.Mathlib.Decide.{decLt}
 use native.Mathlib.Omega.{arith}
 use borrow.Author.Tests.{eq-eqb, ne-eqb}
@@ -12,19 +12,13 @@ use lib.Seq.{getD-append-add}
 use Rattle.binar.specs.Bits.{bit}
 use Rattle.binar.proofs.Sums.{bit-of-zero}
 use Rattle.blocks.specs.Matrices.{All}
-use Rattle.blocks.proofs.All.{All·at}
+use Rattle.blocks.proofs.All.{All·at, All·getD}
 use Rattle.reduction.specs.Columns.{rows, rowReduceWithTransform, rank}
 use Rattle.reduction.specs.Pivots.{FirstOnes, NoOtherOnes, Ascending}
 use Rattle.reduction.specs.inner.Plain.{reduced}
 use Rattle.reduction.proofs.Echelon.{rref-ascends, rref-first, rref-at}
 use Rattle.reduction.proofs.Reduced.{reduced-rref, reduced-below, pivots-lt, pivots-length}
-use Rattle.reduction.proofs.Transform.{all-reduced, pivots-reduced, rank-up}
-
--- a column that no member has, and that a row past the end has not either
-none-at : (k : ℕ) (l : List ℕ) → All (λ v. bit k v ≡ false) l → (i : ℕ) → bit k (getD l i 0) ≡ false
-none-at k [] a i = bit-of-zero k
-none-at k (x ∷ l) a zero = a .0
-none-at k (x ∷ l) a (suc i) = none-at k l (a .1) i
+use Rattle.reduction.proofs.Transform.{all-reduced, pivots-reduced, rank-plain}
 
 -- ---- of the rows alone
 
@@ -59,7 +53,7 @@ module _ (m : ℕ) (M : List ℕ) where
       go (no l) =
           let e : j ≡ length us + (j - length us) = omega (arith, l) in
           ap (λ k. bit (getD ps i 0) (getD (us ++ ds) k 0)) e ∙ ap (bit (getD ps i 0)) (getD-append-add us ds (j - length us) 0)
-          ∙ none-at (getD ps i 0) ds (reduced-below m M (getD ps i 0) within) (j - length us)
+          ∙ All·getD (λ v. bit (getD ps i 0) v ≡ false) ds (reduced-below m M (getD ps i 0) within) 0 (bit-of-zero (getD ps i 0)) (j - length us)
 
   ascending : Ascending (length us) ps
   ascending i j h l = rref-ascends bit ps us (reduced-rref m M) i j h (subst (λ k. j < k) (sym (pivots-length m M)) l)
@@ -73,7 +67,7 @@ Pivoted m r ps R = FirstOnes r ps R × NoOtherOnes r ps R × Ascending r ps × A
 pub pivoted : (m : ℕ) (M : List ℕ) (r : ℕ) (ps R : List ℕ)
     → r ≡ rank m M → ps ≡ rowReduceWithTransform m M .pivots → R ≡ map (λ a. a .0) (rows (rowReduceWithTransform m M)) → Pivoted m r ps R
 pivoted m M r ps R er ep eR =
-    subst (λ k. Pivoted m k ps R) (sym (er ∙ rank-up m M))
+    subst (λ k. Pivoted m k ps R) (sym (er ∙ rank-plain m M))
     (subst (λ l. Pivoted m (length (reduced m M .up)) l R) (sym (ep ∙ pivots-reduced m M))
     (subst (λ l. Pivoted m (length (reduced m M .up)) (reduced m M .pivots) l) (sym (eR ∙ all-reduced m M))
     (first-ones m M, no-other-ones m M, ascending m M, pivots-lt m M)))

@@ -1,4 +1,4 @@
--- A matrix reduced by its first m columns: its span, its rank, its pivots, and that there is one reduced basis for each span.
+-- A matrix reduced by its first m columns, without a transform: its span, its pivots, how many rows stand above, and that there is one reduced basis for each span.
 -- Assumes nothing.
 use mathlib.Core.Path.{_≡_, sym, ap, ap₂, _∙_, subst}
 use mathlib.Core.Bool.{Bool, false}

@@ -1,4 +1,4 @@
--- The reduction with its transform: each row at the end is its row of the transform times the matrix, and the rows are those of the plain reduction.
+-- The reduction with its transform: each row at the end is its row of the transform times the matrix; rows, pivots and rank are those of the plain reduction.
 -- Assumes nothing.
 use mathlib.Core.Path.{_≡_, refl, sym, ap, ap₂, _∙_, subst}
 use mathlib.Core.Bool.{true, false}
@@ -83,16 +83,16 @@ module _ (m : ℕ) (M : List ℕ) where
   pub pivots-reduced : rowReduceWithTransform m M .pivots ≡ reduced m M .pivots
   pivots-reduced = ap (λ h. h .pivots) rows-reduced
 
-  -- as many rows as pivots
-  pub rank-up : rank m M ≡ length (reduced m M .up)
+  -- the rank is the number of rows above
+  pub rank-plain : rank m M ≡ length (reduced m M .up)
   unfolding rank
-  rank-up = ap length pivots-reduced ∙ pivots-length m M
+  rank-plain = ap length pivots-reduced ∙ pivots-length m M
 
   pub up-rank : length (rowReduceWithTransform m M .up) ≡ rank m M
-  up-rank = sym (length-map (rowReduceWithTransform m M .up) (λ a. a .0)) ∙ ap length basis-reduced ∙ sym rank-up
+  up-rank = sym (length-map (rowReduceWithTransform m M .up) (λ a. a .0)) ∙ ap length basis-reduced ∙ sym rank-plain
 
   pub rank-length : rank m M ≤ length M
-  rank-length = omega (arith, rank-up, up-length m M)
+  rank-length = omega (arith, rank-plain, up-length m M)
 
   pub transform-length : length (rows (rowReduceWithTransform m M)) ≡ length M
   unfolding rowReduceWithTransform
@@ -105,7 +105,7 @@ module _ (m : ℕ) (M : List ℕ) where
 
   module _ (small : All (λ v. v < 2 ^ m) M) where
     pub rank-width : rank m M ≤ m
-    rank-width = omega (arith, rank-up, up-width m M small)
+    rank-width = omega (arith, rank-plain, up-width m M small)
 
     -- every row of the matrix is a sum of rows above
     pub up-spans : All (InSpan 𝕎 (map (λ a. a .0) (rowReduceWithTransform m M .up))) M

@@ -108,7 +108,7 @@ fn searched(a: Action, budget: u64, out: &mut [u64]) -> Minimal
         }
         Ending::Failed => {}
     }
-    let b = bordered::bordered_list(a);
+    let b = bordered::bordered_list(a, basis, core);
     let candidate = b.candidate;
     match candidate {
         Candidate::Rejected => {

@@ -1,30 +1,22 @@
--- `bordered_list` lists what the two checks pass of the family of the core, by `listed-by`.
+-- `bordered_list` lists what the two checks pass of the family of the core, by `unlisted` and `listed-by`.
 -- Assumes nothing.
 use Rattle.bordered.proofs.Listed.{unlisted, listed-by}
 use Rattle.bordered.specs.Readings.{listedOf}
-use Rattle.bordered.specs.Checks.{verifiesBordered, borderedList}
+use Rattle.bordered.specs.Checks.{verifiesBordered, checkedList, coreFamily}
 use Rattle.family.specs.declared.Construction.the-variants.{Made}
-use Rattle.symplectic.proofs.Arrays.{qubits-le, matrix-length}
-use Rattle.symplectic.specs.Actions.{mostRows, qubits, matrix}
+use Rattle.triangular.specs.Readings.{coreOf}
+use Rattle.symplectic.specs.Actions.{qubits, matrix}
 use Rattle.symplectic.specs.Picks.{when}
-use Rattle.blocks.proofs.Values.{unmapped}
 use Rattle.blocks.specs.Matrices.{matmul}
 use Rattle.blocks.specs.Blocks.{rowsOf}
 use borrow.Author.Tests.{not-true, not-false}
-use lib.ListN.{length}
-use Prim.Native.Nat.{ℕ, _+_}
 use mathlib.Core.List.{List}
+use Prim.Native.Nat.{ℕ}
 use mathlib.Core.Bool.{Bool, true, false, _&&_}
 use mathlib.Core.Path.{_≡_, refl, sym, _∙_}
 use borrow.Author.Needs.{needs}
 use Rattle.bordered.proofs.bordered_list.Statement.{statement}
 use Rattle.bordered.proofs.bordered_list.Tie as tie
-
-size : (c : tie.Start) → length (matrix (c .args .a)) ≡ qubits (c .args .a) + qubits (c .args .a)
-size c = let long : length (c .args .a .rows) ≡ mostRows = search (needs, unmapped) in matrix-length (c .args .a) long
-
-residue-core-requires : tie.Need-residue-core-requires
-residue-core-requires c κs = search needs
 
 bordered-family-requires : tie.Need-bordered-family-requires
 bordered-family-requires c κs = search needs
@@ -37,14 +29,9 @@ rejected-requires c κs = search needs
 
 returns : tie.Need-returns
 returns c =
-    let s = c .before .before .before in
-    let start = s .before .before .before .before in
-    let a = start .args .a in
-    let v = s .before .before .before .residue-core in
-    let f = s .bordered-family in
-    c .rejected .ensures
-    ∙ unlisted (qubits a) (matrix a) (size start) (qubits-le a) (v .result .basis) (v .result .core) (v .ensures .0) (v .ensures .1) (f .result) (f .ensures)
-    (search (needs, c .before .enum-told .given))
+    let s = c .before .before .before .before .args in
+    let f = c .before .before .before .bordered-family in
+    c .rejected .ensures ∙ unlisted (qubits (s .a)) (matrix (s .a)) (s .basis) (s .core) (f .result) (coreFamily (coreOf (s .core))) (f .ensures) (search (needs, c .before .enum-told .given))
 
 enum-told-2 : tie.Need-enum-told-2
 enum-told-2 c = search needs
@@ -57,17 +44,17 @@ validate-requires c κs = search needs
 
 -- the list vs, by what the two checks say
 checked : (c : tie.After-validate) (vs : List ℕ)
-    → vs ≡ matmul (rowsOf (c .before .before .before .before .bordered-family .result .vectors)) (rowsOf (c .before .before .before .before .before .before .before .residue-core .result .basis))
+    → vs ≡ matmul (rowsOf (c .before .before .before .before .bordered-family .result .vectors)) (rowsOf (c .before .before .before .before .before .args .basis))
     → (s t : Bool) → c .validate .result ≡ s
-    → t ≡ verifiesBordered (qubits (c .before .before .before .before .before .before .before .before .args .a)) (matrix (c .before .before .before .before .before .before .before .before .args .a)) (c .before .length-of .result) vs
-    → when (s && t) vs ≡ borderedList (qubits (c .before .before .before .before .before .before .before .before .args .a)) (matrix (c .before .before .before .before .before .before .before .before .args .a))
+    → t ≡ verifiesBordered (qubits (c .before .before .before .before .before .args .a)) (matrix (c .before .before .before .before .before .args .a)) (c .before .length-of .result) vs
+    → when (s && t) vs
+    ≡ checkedList (qubits (c .before .before .before .before .before .args .a)) (matrix (c .before .before .before .before .before .args .a))
+    (rowsOf (c .before .before .before .before .before .args .basis)) (rowsOf (c .before .before .before .before .before .args .core)) (coreFamily (coreOf (c .before .before .before .before .before .args .core)))
 checked c vs is s t valid verified =
-    let start = c .before .before .before .before .before .before .before .before in
-    let a = start .args .a in
-    let v = c .before .before .before .before .before .before .before .residue-core in
+    let a = c .before .before .before .before .before .args in
     let f = c .before .before .before .before .bordered-family in
     let made : f .result .construction ≡ Made = search (needs, c .before .before .enum-told2 .given) in
-    listed-by (qubits a) (matrix a) (size start) (qubits-le a) (v .result .basis) (v .result .core) (v .ensures .0) (v .ensures .1) (f .result) (f .ensures) made
+    listed-by (qubits (a .a)) (matrix (a .a)) (a .basis) (a .core) (f .result) (coreFamily (coreOf (a .core))) (f .ensures) made
     (c .before .length-of .result) (c .before .length-of .ensures) vs is s t (sym valid ∙ c .validate .ensures) verified
 
 rejected-requires-2 : tie.Need-rejected-requires-2
@@ -76,10 +63,10 @@ rejected-requires-2 c κs = search needs
 returns-2 : tie.Need-returns-2
 returns-2 c =
     let s = c .before .before in
-    let a = s .before .before .before .before .before .before .before .before .args .a in
-    let vs = matmul (rowsOf (s .before .before .before .before .bordered-family .result .vectors)) (rowsOf (s .before .before .before .before .before .before .before .residue-core .result .basis)) in
+    let a = s .before .before .before .before .before .args in
+    let vs = matmul (rowsOf (s .before .before .before .before .bordered-family .result .vectors)) (rowsOf (a .basis)) in
     c .rejected2 .ensures
-    ∙ checked s vs refl false (verifiesBordered (qubits a) (matrix a) (s .before .length-of .result) vs) (not-true (s .validate .result) (c .before .if1 .taken)) refl
+    ∙ checked s vs refl false (verifiesBordered (qubits (a .a)) (matrix (a .a)) (s .before .length-of .result) vs) (not-true (s .validate .result) (c .before .if1 .taken)) refl
 
 product-requires : tie.Need-product-requires
 product-requires c κs = search needs
@@ -90,7 +77,9 @@ verifies-bordered-decomposition-requires c κs = search needs
 -- a valid family, by what the second check says
 verified : (c : tie.After-verifies-bordered-decomposition) (t : Bool) → c .verifies-bordered-decomposition .result ≡ t
     → when t (rowsOf (c .before .product .result))
-    ≡ borderedList (qubits (c .before .before .before .before .before .before .before .before .before .before .before .args .a)) (matrix (c .before .before .before .before .before .before .before .before .before .before .before .args .a))
+    ≡ checkedList (qubits (c .before .before .before .before .before .before .before .before .args .a)) (matrix (c .before .before .before .before .before .before .before .before .args .a))
+    (rowsOf (c .before .before .before .before .before .before .before .before .args .basis)) (rowsOf (c .before .before .before .before .before .before .before .before .args .core))
+    (coreFamily (coreOf (c .before .before .before .before .before .before .before .before .args .core)))
 verified c t e =
     let s = c .before .before .before in
     let p = c .before .product in
@@ -112,7 +101,6 @@ pub bordered-list-spec : {M : Type 1} → statement M
 bordered-list-spec =
     tie.close
     (tie.spec
-    residue-core-requires
     bordered-family-requires
     enum-told
     rejected-requires

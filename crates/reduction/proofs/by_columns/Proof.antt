@@ -1,5 +1,5 @@
 -- `by_columns` exchanges the first row that has the column up and sweeps row after row, by `swept-write` and `column-done`, and writes the
--- pivot, by `pivot-next`; where there is none it changes nothing, by `both-none`. Column follows column by `fewer`.
+-- pivot, by `set-next`; where there is none it changes nothing, by `both-none`. Column follows column by `fewer`.
 -- Assumes nothing.
 use mathlib.Core.Path.{_≡_, sym, ap, _∙_}
 use mathlib.Core.Bool.{Bool, not, _&&_}
@@ -14,7 +14,7 @@ use Rattle.binar.specs.Rows.{val}
 use Rattle.binar.specs.inner.Blank.{blank}
 use Rattle.blocks.specs.declared.Block.{Block}
 use Rattle.blocks.specs.Blocks.{room, rowsOf}
-use Rattle.blocks.proofs.Values.{rows-get, rows-fit, unmapped}
+use Rattle.blocks.proofs.Values.{rows-get, rows-fit, set-next, unmapped}
 use Rattle.symplectic.specs.Picks.{addBoth}
 use Rattle.reduction.specs.Columns.{unreduced, columns}
 use Rattle.reduction.specs.Pivots.{pivotsOf}
@@ -23,7 +23,7 @@ use Rattle.reduction.proofs.Flat.{columns-done}
 use Rattle.reduction.proofs.Sweep.{swept-zero, swept-length, swept-ahead, swept-write}
 use Rattle.reduction.proofs.TwoLists.{both-none}
 use Rattle.reduction.proofs.Loops.{column-done}
-use Rattle.reduction.proofs.Crossed.{written-is, crossed, crossed-is, crossed-length, crossed-first, pivot-next, fewer, carried}
+use Rattle.reduction.proofs.Crossed.{written-is, crossed, crossed-is, crossed-length, crossed-first, fewer, carried}
 use native.Mathlib.Omega.{arith}
 use borrow.Author.Needs.{needs}
 use Rattle.reduction.proofs.by_columns.Statement.{statement}
@@ -257,7 +257,7 @@ loop-again c =
     (crossed-is (from .a) (from .p) j h g) (crossed-is (from .t) (from .p) j (omega arith) (omega arith)) r₂ t₂ in
     let long = ap length (at .inv .5) ∙ swept-length 0 _⊕_ has (from .p) (at .i) (rowsOf a₁) ∙ at .inv .1 in
     let pivots = set (from .pivots) (from .p) (from .c) in
-    let more = pivot-next (from .pivots) (from .p) (from .c) (omega (arith, from .inv .5)) in
+    let more = set-next (from .pivots) (from .p) (from .c) (omega (arith, from .inv .5)) in
     carried P (at .a) (at .t) (c .if1 .a) (c .if1 .t) pivots (c .if1 .pivots) (from .p + 1) (c .if1 .p) (w .7) (w .8) (w .9) (w .10) (
       search needs,
       from .inv .1,

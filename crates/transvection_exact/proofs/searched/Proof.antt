@@ -10,6 +10,7 @@ use Rattle.blocks.proofs.Values.{unmapped}
 use Rattle.symplectic.specs.Actions.{mostRows, qubits, matrix}
 use Rattle.symplectic.specs.Replies.{Reply}
 use Rattle.symplectic.proofs.Arrays.{qubits-le, matrix-length}
+use Rattle.bordered.proofs.Listed.{bordered-of}
 use Rattle.transvection_exact.proofs.Outcomes.{searched-spent, searched-found, searched-unbordered, searched-bordered}
 use borrow.Author.Needs.{needs}
 use Rattle.transvection_exact.proofs.searched.Statement.{statement}
@@ -80,7 +81,7 @@ returns-3 c =
     let o = c .before .before .before .before .before .congruence-triangularize in
     let r = c .before .before .before .before .before .before .before .before .residue-core in
     let b = c .before .before .bordered-list in
-    let w = searched-unbordered (qubits (s .a)) (matrix (s .a)) (size start) (qubits-le (s .a)) (s .budget) (s .out .now) (r .result .core) (r .ensures .1) (o .result) (o .ensures) (search (needs, c .before .before .before .enum-told3 .given)) (b .result) (b .ensures) (search (needs, c .enum-told4 .given)) in
+    let w = searched-unbordered (qubits (s .a)) (matrix (s .a)) (size start) (qubits-le (s .a)) (s .budget) (s .out .now) (r .result .core) (r .ensures .1) (o .result) (o .ensures) (search (needs, c .before .before .before .enum-told3 .given)) (b .result) (b .ensures ∙ bordered-of (qubits (s .a)) (matrix (s .a)) (size start) (qubits-le (s .a)) (r .result .basis) (r .result .core) (r .ensures .0) (r .ensures .1)) (search (needs, c .enum-told4 .given)) in
     (sym (ap (λ (x : Reply). x .figures) w), sym (ap (λ (x : Reply). x .words) w))
 
 enum-told-5 : tie.Need-enum-told-5
@@ -102,7 +103,7 @@ returns-4 c =
     let b = c .before .before .before .before .before .before .before .bordered-list in
     let vs = rowsOf (b .result .list) in
     let e = c .before .before .stored2 .ensures in
-    let w = searched-bordered (qubits (s .a)) (matrix (s .a)) (size start) (qubits-le (s .a)) (s .budget) (s .out .now) (r .result .core) (r .ensures .1) (o .result) (o .ensures) (search (needs, c .before .before .before .before .before .before .before .before .enum-told3 .given)) (b .result) (b .ensures) (search (needs, c .before .before .before .before .before .enum-told5 .given)) in
+    let w = searched-bordered (qubits (s .a)) (matrix (s .a)) (size start) (qubits-le (s .a)) (s .budget) (s .out .now) (r .result .core) (r .ensures .1) (o .result) (o .ensures) (search (needs, c .before .before .before .before .before .before .before .before .enum-told3 .given)) (b .result) (b .ensures ∙ bordered-of (qubits (s .a)) (matrix (s .a)) (size start) (qubits-le (s .a)) (r .result .basis) (r .result .core) (r .ensures .0) (r .ensures .1)) (search (needs, c .before .before .before .before .before .enum-told5 .given)) in
     (e .0 ∙ sym (ap (λ (x : Reply). x .figures) w), e .1 ∙ ap (λ (m : ℕ). laid m vs (s .out .now)) q ∙ sym (ap (λ (x : Reply). x .words) w))
 
 pub searched-spec : {M : Type 1} → statement M
