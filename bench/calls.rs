@@ -1,5 +1,5 @@
-//! Microseconds of whole calls, minimal and greedy, beside the Rust source where it is at hand: on the same layers, in one
-//! process, the two sides in turn. Both sides' lists are compared before they are timed.
+//! Microseconds of whole calls, minimal, greedy and fixed space, beside the Rust source where it is at hand: on the same layers,
+//! in one process, the two sides in turn. Both sides' lists and fixed spaces are compared before they are timed.
 use std::time::Instant;
 
 mod clock;
@@ -25,6 +25,12 @@ struct Layer {
     draws: u64,
 }
 
+/// Whether the members of a basis are as many as those of a reduced one, and sums of them.
+fn same_space(basis: &[u64], reduced: &[u64]) -> bool {
+    let without = |v: u64, r: &u64| if v & r & r.wrapping_neg() == 0 { v } else { v ^ r };
+    basis.len() == reduced.len() && basis.iter().all(|&v| reduced.iter().fold(v, without) == 0)
+}
+
 /// The layer of these rows; none where its search is spent.
 fn layer(n: usize, rows: Vec<u64>) -> Option<Layer> {
     let mut out = [0; ours::ROOM];
@@ -44,6 +50,11 @@ fn layer(n: usize, rows: Vec<u64>) -> Option<Layer> {
     assert_eq!(number, 0, "the greedy call is refused");
     if let Some(s) = &source {
         assert_eq!(s.greedy_list(), out[..count], "the greedy lists differ");
+    }
+    let (number, count) = ours::fixed_space(n, &rows, &mut out);
+    assert_eq!(number, 0, "the fixed space call is refused");
+    if let Some(s) = &source {
+        assert!(same_space(&s.fixed_list(), &out[..count]), "the fixed spaces differ");
     }
     Some(Layer { n, rows, source, looks, draws })
 }
@@ -66,6 +77,15 @@ fn greedy_sample(layer: &Layer, clocks: &mut Clocks) {
     if let Some(s) = &layer.source {
         clocks[1].sample(|| s.greedy());
         clocks[2].sample(|| s.preimages());
+    }
+}
+
+fn fixed_sample(layer: &Layer, clocks: &mut Clocks) {
+    let mut out = [0; ours::ROOM];
+    clocks[0].sample(|| ours::fixed_space(layer.n, &layer.rows, &mut out));
+    if let Some(s) = &layer.source {
+        clocks[1].sample(|| s.fixed_space());
+        clocks[2].sample(|| s.kernel());
     }
 }
 
@@ -92,7 +112,7 @@ fn worst(clocks: &[Clocks]) -> f64 {
     clocks.iter().map(|c| c[0].best / c[1].best).fold(0.0, f64::max)
 }
 
-/// The columns that both tables have, and our mean time.
+/// The columns that all tables have, and our mean time.
 fn common(name: &str, n: usize, clocks: &[Clocks], above: Option<f64>, known: bool) -> (String, f64) {
     let ours = mean(clocks, 0);
     let of_source = |text: String| if known { text } else { "-".into() };
@@ -147,15 +167,15 @@ fn minimal_table(all: &[(&str, usize, Vec<Layer>, usize)]) {
     }
 }
 
-fn greedy_table(all: &[(&str, usize, Vec<Layer>, usize)]) {
-    println!("the greedy call; source: clifford_to_transvections; stand-in: its part that is not the source's code");
+fn table(title: &str, all: &[(&str, usize, Vec<Layer>, usize)], sample: fn(&Layer, &mut Clocks)) {
+    println!("{title}");
     println!(
         "{:>13}{:>8}  {:<11}{:>9}{:>9}{:>10}{:>8}",
         "ours / source", "worst", "layers", "ours", "source", "stand-in", "growth"
     );
     let mut above: Option<(&str, f64)> = None;
     for (name, n, of, _) in all {
-        let clocks = timed(of, greedy_sample);
+        let clocks = timed(of, sample);
         let before = above.filter(|a| a.0 == *name).map(|a| a.1);
         let (line, micros) = common(name, *n, &clocks, before, of[0].source.is_some());
         println!("{}", line.trim_end());
@@ -179,5 +199,8 @@ fn main() {
         println!("the Rust source is not at hand");
     }
     minimal_table(&all);
-    greedy_table(&all);
+    let greedy = "the greedy call; source: clifford_to_transvections; stand-in: its part that is not the source's code";
+    table(greedy, &all, greedy_sample);
+    let fixed = "the fixed space; source: clifford_fixed_space; stand-in: its parts that are not the source's code, the elimination among them";
+    table(fixed, &all, fixed_sample);
 }

@@ -13,10 +13,11 @@ extern "C" {
         looks: *mut u64,
     ) -> u64;
     fn turnlist_greedy(n: u64, rows: *const u64, row_count: usize, out: *mut u64, out_len: usize, count: *mut u64) -> u64;
+    fn turnlist_fixed_space(n: u64, rows: *const u64, row_count: usize, out: *mut u64, out_len: usize, count: *mut u64) -> u64;
     fn turnlist_gates(n: u64, gates: *const u8, byte_count: usize, out: *mut u64, out_len: usize, count: *mut u64) -> u64;
 }
 
-/// Words enough for either list.
+/// Words enough for either list and for a fixed space.
 pub const ROOM: usize = 130;
 
 /// The refusal, how many vectors were listed, and the looks.
@@ -32,6 +33,13 @@ pub fn minimal(n: usize, rows: &[u64], budget: u64, out: &mut [u64; ROOM]) -> (u
 pub fn greedy(n: usize, rows: &[u64], out: &mut [u64; ROOM]) -> (u64, usize) {
     let mut count = 0;
     let number = unsafe { turnlist_greedy(n as u64, rows.as_ptr(), rows.len(), out.as_mut_ptr(), ROOM, &mut count) };
+    (number, count as usize)
+}
+
+/// The refusal, and how many vectors the reduced basis has.
+pub fn fixed_space(n: usize, rows: &[u64], out: &mut [u64; ROOM]) -> (u64, usize) {
+    let mut count = 0;
+    let number = unsafe { turnlist_fixed_space(n as u64, rows.as_ptr(), rows.len(), out.as_mut_ptr(), ROOM, &mut count) };
     (number, count as usize)
 }
 

@@ -1,4 +1,4 @@
-/* A layer by its gates, its two turn lists, the action rebuilt from each, and a refusal. Run it by examples/run-c. */
+/* A layer by its gates, its turn lists, the action rebuilt from each, its fixed space, and a refusal. Run it by examples/run-c. */
 #include "turnlist.h"
 
 #include <inttypes.h>
@@ -57,7 +57,7 @@ static int answered(uint64_t reply)
 
 int main(void)
 {
-    uint64_t action[ROWS], minimal[MINIMAL_WORDS], greedy[GREEDY_WORDS], count, looks;
+    uint64_t action[ROWS], minimal[MINIMAL_WORDS], greedy[GREEDY_WORDS], fixed[ROWS], count, looks;
 
     if (!answered(turnlist_gates(N, layer, sizeof layer, action, ROWS, &count)))
         return 1;
@@ -74,6 +74,11 @@ int main(void)
     printf("greedy: %" PRIu64 " turns:", count);
     print_letters(greedy, count);
     print_rebuilt("greedy", greedy, count, action);
+
+    if (!answered(turnlist_fixed_space(N, action, ROWS, fixed, ROWS, &count)))
+        return 1;
+    printf("fixed space: %" PRIu64 " vectors:", count);
+    print_letters(fixed, count);
 
     printf("minimal with one look too few: ");
     answered(turnlist_minimal(N, action, ROWS, looks - 1, minimal, MINIMAL_WORDS, &count, &looks));

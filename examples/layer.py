@@ -1,4 +1,4 @@
-"""A layer by its gates, its two turn lists, the action rebuilt from each, and a refusal. Run it by examples/run-python."""
+"""A layer by its gates, its turn lists, the action rebuilt from each, its fixed space, and a refusal. Run it by examples/run-python."""
 import sys
 
 from turnlist import CX, H, Refusal, Turnlist
@@ -27,6 +27,9 @@ def main(path):
     greedy = library.greedy(N, action)
     print(f"greedy: {len(greedy)} turns: {letters(greedy)}")
     print(f"rebuilt from the greedy list: {compared(greedy)}")
+
+    fixed = library.fixed_space(N, action)
+    print(f"fixed space: {len(fixed)} vectors: {letters(fixed)}")
 
     try:
         library.minimal(N, action, looks - 1)

@@ -1,4 +1,4 @@
-//! A layer by its gates, its two turn lists, the action rebuilt from each, and a refusal. Run it by examples/run-rust.
+//! A layer by its gates, its turn lists, the action rebuilt from each, its fixed space, and a refusal. Run it by examples/run-rust.
 #[allow(dead_code)] // not every gate is used here
 mod turnlist;
 
@@ -29,6 +29,9 @@ fn main() -> Result<(), Refusal> {
     let greedy = turnlist::greedy(N, &action)?;
     println!("greedy: {} turns: {}", greedy.len(), letters(&greedy));
     println!("rebuilt from the greedy list: {}", compared(&greedy, &action)?);
+
+    let fixed = turnlist::fixed_space(N, &action)?;
+    println!("fixed space: {} vectors: {}", fixed.len(), letters(&fixed));
 
     if let Err(refusal) = turnlist::minimal(N, &action, minimal.looks - 1) {
         println!("minimal with one look too few: {refusal}");

@@ -54,6 +54,7 @@ class Turnlist:
         lending = [WORDS, LENGTH, WORDS]
         self._minimal = self._call(library.turnlist_minimal, [WORD, WORDS, LENGTH, WORD, *lending, WORDS])
         self._greedy = self._call(library.turnlist_greedy, [WORD, WORDS, LENGTH, *lending])
+        self._fixed_space = self._call(library.turnlist_fixed_space, [WORD, WORDS, LENGTH, *lending])
         self._rebuild = self._call(library.turnlist_rebuild, [WORD, WORDS, LENGTH, *lending])
         self._gates = self._call(library.turnlist_gates, [WORD, BYTES, LENGTH, *lending])
 
@@ -80,6 +81,10 @@ class Turnlist:
     def greedy(self, n, rows):
         """A list of turns whose product is the action, quickly found."""
         return self._written(self._greedy, 4 * MOST_QUBITS + 2, word(n), words(rows), len(rows))
+
+    def fixed_space(self, n, rows):
+        """The reduced basis, pivots ascending, of all vectors that the action leaves as they are."""
+        return self._written(self._fixed_space, 2 * MOST_QUBITS, word(n), words(rows), len(rows))
 
     def rebuild(self, n, vectors):
         """The 2n rows of the product of any list."""

@@ -97,6 +97,15 @@ pub fn greedy(n: u64, rows: &[u64]) -> Result<Vec<u64>, Refusal> {
     written(reply, &out, count)
 }
 
+/// The reduced basis, pivots ascending, of all vectors that the action leaves as they are.
+pub fn fixed_space(n: u64, rows: &[u64]) -> Result<Vec<u64>, Refusal> {
+    let mut out = [0; 2 * MOST_QUBITS];
+    let mut count = 0;
+    // SAFETY: as in `minimal`.
+    let reply = unsafe { turnlist_fixed_space(n, rows.as_ptr(), rows.len(), out.as_mut_ptr(), out.len(), &mut count) };
+    written(reply, &out, count)
+}
+
 /// The 2n rows of the product of any list.
 pub fn rebuild(n: u64, vectors: &[u64]) -> Result<Vec<u64>, Refusal> {
     let mut out = [0; 2 * MOST_QUBITS];
@@ -145,6 +154,7 @@ extern "C" {
         looks: *mut u64,
     ) -> u64;
     fn turnlist_greedy(n: u64, rows: *const u64, row_count: usize, out: *mut u64, out_len: usize, count: *mut u64) -> u64;
+    fn turnlist_fixed_space(n: u64, rows: *const u64, row_count: usize, out: *mut u64, out_len: usize, count: *mut u64) -> u64;
     fn turnlist_rebuild(n: u64, vectors: *const u64, vector_count: usize, out: *mut u64, out_len: usize, count: *mut u64) -> u64;
     fn turnlist_gates(n: u64, gates: *const u8, byte_count: usize, out: *mut u64, out_len: usize, count: *mut u64) -> u64;
 }

@@ -36,7 +36,8 @@ extern "C" {
 
 #define TURNLIST_MOST_QUBITS 32
 
-/* How many words an action takes, and how many output words the two lists want. */
+/* How many words an action takes, and how many output words the two lists want. The fixed space wants as many as an
+ * action takes. */
 #define TURNLIST_ROWS(n) (2 * (n))
 #define TURNLIST_MINIMAL_WORDS(n) (2 * (n) + 1)
 #define TURNLIST_GREEDY_WORDS(n) (4 * (n) + 2)
@@ -81,6 +82,15 @@ uint64_t turnlist_minimal(uint64_t n, const uint64_t *rows, size_t row_count, ui
  * Wants 2n rows and at least 4n + 2 output words. Refuses with 1 to 5. */
 uint64_t turnlist_greedy(uint64_t n, const uint64_t *rows, size_t row_count,
                          uint64_t *out, size_t out_len, uint64_t *count);
+
+/* The fixed space of an action F, all v with vF = v, where vF is the sum modulo 2 of the rows k with bit k of v set.
+ *
+ * The *count vectors are its reduced basis: at the lowest one of each, its pivot, no other has a one, and the pivots
+ * ascend. *count is 2n - r, where r is the rank of I + F.
+ *
+ * Wants 2n rows and at least 2n output words, whatever the count. Refuses with 1 to 5. */
+uint64_t turnlist_fixed_space(uint64_t n, const uint64_t *rows, size_t row_count,
+                              uint64_t *out, size_t out_len, uint64_t *count);
 
 /* The product of any list of vectors: its 2n rows, and *count is 2n. A zero vector changes nothing.
  *

@@ -1,5 +1,6 @@
-//! All calls on one action: the minimal list at several budgets, the greedy list, and both lists rebuilt.
+//! All calls on one action: the minimal list at several budgets, the greedy list, both lists rebuilt, and the fixed space.
 use crate::check::Checker;
+use crate::fixed::flaw;
 use crate::library::{Call, Question};
 use crate::source::Listed;
 use crate::words::residue_rank;
@@ -18,14 +19,15 @@ impl Sample<'_> {
         Question::of_words(Call::Minimal { budget }, self.n as u64, self.rows, 2 * self.n + 1 + self.spare)
     }
 
-    /// Compares every call on the action; its lists, where the search was not spent.
+    /// Compares every call on the action; its lists and fixed space, where the search was not spent.
     pub fn compare(&self, check: &mut Checker) -> Option<Listed> {
         let minimal = self.minimal_list(check);
         let question = Question::of_words(Call::Greedy, self.n as u64, self.rows, 4 * self.n + 2 + self.spare);
         let greedy = check.call(self.family, &question).list().to_vec();
         self.rebuild(check, &greedy);
+        let fixed = self.fixed_space(check);
         let (minimal, looks) = minimal?;
-        Some(Listed { n: self.n, rows: self.rows.to_vec(), minimal, greedy, looks })
+        Some(Listed { n: self.n, rows: self.rows.to_vec(), minimal, looks, greedy, fixed })
     }
 
     fn minimal_list(&self, check: &mut Checker) -> Option<(Vec<u64>, u64)> {
@@ -66,6 +68,14 @@ impl Sample<'_> {
             let number = check.call(self.family, &question).number;
             check.require((number == 0) == (budget >= looks), &question, "spent with looks left, or not spent without");
         }
+    }
+
+    fn fixed_space(&self, check: &mut Checker) -> Vec<u64> {
+        let question = Question::of_words(Call::FixedSpace, self.n as u64, self.rows, 2 * self.n + self.spare);
+        let list = check.call(self.family, &question).list().to_vec();
+        let wrong = flaw(self.n, self.rows, &list);
+        check.require(wrong.is_none(), &question, wrong.unwrap_or_default());
+        list
     }
 
     fn rebuild(&self, check: &mut Checker, list: &[u64]) {

@@ -31,6 +31,7 @@ pub fn expected(question: &Question) -> Seen {
     let reply = match question.call {
         Call::Minimal { budget } => model::minimal(n, words, budget, out),
         Call::Greedy => model::greedy(n, words, out),
+        Call::FixedSpace => model::fixed_space(n, words, out),
         Call::Rebuild => model::rebuild(n, words, out),
         Call::Gates => model::gates(n, &question.bytes, out),
     };

@@ -6,9 +6,14 @@ use crate::library::{Call, Question};
 /// Enough for every search here that is not meant to be refused, and no more than a moment.
 const BUDGET: u64 = 2_000;
 
-/// Both list calls, and a rebuild of the rows, with so many output words.
-fn word_calls() -> [Call; 3] {
-    [Call::Minimal { budget: BUDGET }, Call::Greedy, Call::Rebuild]
+/// The calls that take an action.
+fn action_calls() -> [Call; 3] {
+    [Call::Minimal { budget: BUDGET }, Call::Greedy, Call::FixedSpace]
+}
+
+/// Those, and a rebuild of the rows.
+fn word_calls() -> [Call; 4] {
+    [Call::Minimal { budget: BUDGET }, Call::Greedy, Call::FixedSpace, Call::Rebuild]
 }
 
 fn around(length: usize) -> Vec<usize> {
@@ -91,7 +96,7 @@ pub fn damaged_rows(check: &mut Checker, layers: &mut Layers) {
                 let place = layers.random.below(2 * n);
                 rows[place] ^= 1 << layers.random.below(2 * n);
             }
-            for call in [Call::Minimal { budget: BUDGET }, Call::Greedy] {
+            for call in action_calls() {
                 let question = Question::of_words(call, n as u64, &rows, 4 * n + 2);
                 let number = check.call("damaged rows", &question).number;
                 check.require(!sure || number == 4, &question, "an action that is not symplectic passed");
@@ -111,16 +116,16 @@ fn damage(random: &mut Random, rows: &mut [u64]) {
 pub fn several(check: &mut Checker, layers: &mut Layers, samples: usize) {
     for _ in 0..samples {
         let n = 1 + layers.random.below(32);
-        let call = word_calls()[layers.random.below(3)];
+        let call = word_calls()[layers.random.below(4)];
         let (question, planted) =
-            if call == Call::Rebuild { several_rebuild(layers, n) } else { several_list(layers, n, call) };
+            if call == Call::Rebuild { several_rebuild(layers, n) } else { several_rows(layers, n, call) };
         let number = check.call("several refusals", &question).number;
         let first = planted.iter().min();
         check.require(first.is_none() || first == Some(&number), &question, "not the first refusal");
     }
 }
 
-fn several_list(layers: &mut Layers, n: usize, call: Call) -> (Question, Vec<u64>) {
+fn several_rows(layers: &mut Layers, n: usize, call: Call) -> (Question, Vec<u64>) {
     let mut rows = layers.action(Family::FewTurns, n);
     let random = &mut layers.random;
     let wanted = random.word();
@@ -135,7 +140,11 @@ fn several_list(layers: &mut Layers, n: usize, call: Call) -> (Question, Vec<u64
     if planted.contains(&2) {
         rows.resize(if random.one_in(2) { 2 * n - 1 } else { 2 * n + 1 + random.below(3) }, 0);
     }
-    let needed = if call == Call::Greedy { 4 * n + 2 } else { 2 * n + 1 };
+    let needed = match call {
+        Call::Greedy => 4 * n + 2,
+        Call::FixedSpace => 2 * n,
+        _ => 2 * n + 1,
+    };
     let out = if planted.contains(&5) { random.below(needed) } else { needed + random.below(4) };
     let count = if planted.contains(&1) { 33 + random.word() % 40 } else { n as u64 };
     (Question::of_words(call, count, &rows, out), planted)

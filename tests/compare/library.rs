@@ -1,4 +1,4 @@
-//! The four functions of the library behind one safe call. Every lent buffer stands between guard words of a known pattern.
+//! The five functions of the library behind one safe call. Every lent buffer stands between guard words of a known pattern.
 
 extern "C" {
     fn turnlist_minimal(
@@ -12,6 +12,14 @@ extern "C" {
         looks: *mut u64,
     ) -> u64;
     fn turnlist_greedy(
+        n: u64,
+        rows: *const u64,
+        row_count: usize,
+        out: *mut u64,
+        out_len: usize,
+        count: *mut u64,
+    ) -> u64;
+    fn turnlist_fixed_space(
         n: u64,
         rows: *const u64,
         row_count: usize,
@@ -41,6 +49,7 @@ extern "C" {
 pub enum Call {
     Minimal { budget: u64 },
     Greedy,
+    FixedSpace,
     Rebuild,
     Gates,
 }
@@ -158,6 +167,7 @@ impl Lent {
                     turnlist_minimal(n, words, word_count, budget, out, question.out, count, looks)
                 }
                 Call::Greedy => turnlist_greedy(n, words, word_count, out, question.out, count),
+                Call::FixedSpace => turnlist_fixed_space(n, words, word_count, out, question.out, count),
                 Call::Rebuild => turnlist_rebuild(n, words, word_count, out, question.out, count),
                 Call::Gates => turnlist_gates(n, self.bytes.pointer(), question.bytes.len(), out, question.out, count),
             }

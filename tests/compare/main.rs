@@ -1,9 +1,10 @@
-//! The library's four calls beside an independent model, and beside the Rust source where its program is named.
+//! The library's five calls beside an independent model, and beside the Rust source where its program is named.
 //! Arguments: the source's program or `-`; then, if wanted, `three` (every action on 3 qubits too), or `plant` and the number of
 //! a call whose count is to be damaged.
 mod actions;
 mod check;
 mod edges;
+mod fixed;
 mod layers;
 mod library;
 mod minimal;
@@ -39,15 +40,16 @@ fn every_matrix(check: &mut Checker) {
         let values = 1u64 << (2 * n);
         for code in 0..values.pow(2 * n as u32) {
             let rows: Vec<u64> = (0..2 * n as u32).map(|k| code / values.pow(k) % values).collect();
-            for call in [Call::Minimal { budget: 3 }, Call::Greedy] {
+            for call in [Call::Minimal { budget: 3 }, Call::Greedy, Call::FixedSpace] {
                 check.call("every matrix", &Question::of_words(call, n as u64, &rows, 4 * n + 2));
             }
         }
     }
     for (a, b) in (0..64).flat_map(|a| (0..64).map(move |b| (a, b))) {
         let wide = |code: u64| code & 7 | (code >> 3 & 1) << 3 | (code >> 4 & 1) << 31 | (code >> 5) << 63;
-        let question = Question::of_words(Call::Minimal { budget: 3 }, 1, &[wide(a), wide(b)], 3);
-        check.call("every matrix", &question);
+        for call in [Call::Minimal { budget: 3 }, Call::FixedSpace] {
+            check.call("every matrix", &Question::of_words(call, 1, &[wide(a), wide(b)], 3));
+        }
     }
 }
 
@@ -106,13 +108,13 @@ fn against_source(program: &str, listed: &[Listed]) -> u64 {
         println!("the Rust source did not run: {error}");
         1
     });
-    println!("both lists of {} actions beside the Rust source's, {differ} differ", listed.len());
+    println!("both lists and the fixed space of {} actions beside the Rust source's, {differ} differ", listed.len());
     differ
 }
 
 /// Ends the program if the comparison cannot be trusted.
 fn test_self() {
-    let facts = [selftest::examples(), selftest::families(), selftest::source_lines()];
+    let facts = [selftest::examples(), selftest::fixed_spaces(), selftest::families(), selftest::source_lines()];
     match facts.into_iter().collect::<Result<(), String>>().and_then(|()| selftest::planted()) {
         Ok(seen) => println!("{seen} planted damages, all of them reported\n"),
         Err(text) => {

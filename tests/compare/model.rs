@@ -1,4 +1,5 @@
-//! The four calls again, plainly, from the scope paper: the questions in their order, then the answer.
+//! The five calls again, plainly, from the scope paper (the fixed space from request 3): the questions in their order, then the answer.
+use crate::fixed;
 use crate::minimal::minimal_list;
 use crate::words::{mask, pairing, product, symplectic};
 
@@ -20,7 +21,8 @@ fn width(n: u64, rows: usize) -> Result<usize, u64> {
     Ok(n as usize)
 }
 
-fn list_questions(n: u64, rows: &[u64]) -> Result<usize, u64> {
+/// Questions 1 to 4.
+fn action_questions(n: u64, rows: &[u64]) -> Result<usize, u64> {
     let n = width(n, rows.len())?;
     ask(rows.iter().all(|row| row & !mask(n) == 0), 3)?;
     ask(symplectic(n, rows), 4)?;
@@ -28,13 +30,13 @@ fn list_questions(n: u64, rows: &[u64]) -> Result<usize, u64> {
 }
 
 pub fn minimal(n: u64, rows: &[u64], budget: u64, out: usize) -> Reply {
-    let n = list_questions(n, rows)?;
+    let n = action_questions(n, rows)?;
     ask(out > 2 * n, 5)?;
     minimal_list(n, rows, budget)
 }
 
 pub fn greedy(n: u64, rows: &[u64], out: usize) -> Reply {
-    let n = list_questions(n, rows)?;
+    let n = action_questions(n, rows)?;
     ask(out >= 4 * n + 2, 5)?;
     let mut action = rows.to_vec();
     let mut record = Vec::new();
@@ -61,6 +63,12 @@ fn next_turn(n: usize, action: &[u64]) -> Option<u64> {
         }
     }
     (0..2 * n).map(row).find(|&v| v != 0)
+}
+
+pub fn fixed_space(n: u64, rows: &[u64], out: usize) -> Reply {
+    let n = action_questions(n, rows)?;
+    ask(out >= 2 * n, 5)?;
+    Ok((fixed::basis(n, rows), 0))
 }
 
 pub fn rebuild(n: u64, vectors: &[u64], out: usize) -> Reply {

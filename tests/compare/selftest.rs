@@ -1,9 +1,10 @@
 //! Before the comparison: damage of every kind is planted and must be reported, the families are what they say, and the model
-//! gives the scope paper's examples.
+//! gives the scope paper's examples and some fixed spaces.
 use crate::check::Checker;
+use crate::fixed::{flaw, reduced};
 use crate::layers::{hyperbolic, Family, Layers, FAMILIES};
 use crate::library::{Call, Lent, Question, Spoil};
-use crate::model::{gates, greedy, minimal};
+use crate::model::{fixed_space, gates, greedy, minimal};
 use crate::source::{agrees, Listed};
 use crate::words::{identity, symplectic, times};
 
@@ -28,7 +29,7 @@ fn damages() -> Vec<(&'static str, Damage)> {
     ]
 }
 
-/// Answers and refusals of all four calls.
+/// Answers and refusals of all five calls.
 fn questions() -> Vec<Question> {
     let rows = [2, 1, 8, 4, 0x20, 0x10].map(|k: u64| k ^ 1);
     let swap = [2, 1, 8, 4];
@@ -42,6 +43,8 @@ fn questions() -> Vec<Question> {
         minimal(&swap, 9, 4),
         Question::of_words(Call::Greedy, 2, &swap, 10),
         Question::of_words(Call::Greedy, 2, &hadamards, 9),
+        Question::of_words(Call::FixedSpace, 2, &swap, 6),
+        Question::of_words(Call::FixedSpace, 2, &hadamards, 3),
         Question::of_words(Call::Rebuild, 2, &[3, 0, 15], 4),
         Question::of_words(Call::Rebuild, 2, &[3, 16], 4),
         Question::of_gates(2, &[0, 1, 9, 5, 0, 1], 4),
@@ -73,18 +76,23 @@ pub fn planted() -> Result<u64, String> {
     Ok(seen)
 }
 
-/// Lines of the source that say something else than the library are seen to.
+/// Lines of the source that say something else than the library are seen to; another basis of the same fixed space does not.
 pub fn source_lines() -> Result<(), String> {
-    let listed = Listed { n: 1, rows: vec![3, 1], minimal: vec![1, 2], greedy: vec![1, 2], looks: 2 };
-    let agree = |lines: [&str; 3]| agrees(&listed, &lines.map(String::from));
-    let wrong = [
-        ["min: 2 1", "greedy: 1 2", "visits: 2"],
-        ["min: 1 2", "greedy: 1 3", "visits: 2"],
-        ["min: 1 2 0", "greedy: 1 2", "visits: 2"],
-        ["min: 1 2", "greedy: 1 2", "visits: 3"],
-        ["", "", ""],
+    let (minimal, greedy) = (vec![5, 10], vec![10, 5]);
+    let listed = Listed { n: 2, rows: vec![4, 8, 1, 2], minimal, looks: 2, greedy, fixed: vec![5, 10] };
+    let agree = |lines: [&str; 4]| agrees(&listed, &lines.map(String::from));
+    let of_fixed = |line: &'static str| ["min: 5 a", "visits: 2", "greedy: a 5", line];
+    let right = ["fixed: 5 a", "fixed: a 5", "fixed: 5 f", "fixed: f a"].map(of_fixed);
+    let other_spaces =
+        ["fixed: 5 2", "fixed: 5", "fixed: 5 5", "fixed: 5 a f", "fixed: 5 a 1", "fixed:", ""].map(of_fixed);
+    let other_lists = [
+        ["min: a 5", "visits: 2", "greedy: a 5", "fixed: 5 a"],
+        ["min: 5 a 0", "visits: 2", "greedy: a 5", "fixed: 5 a"],
+        ["min: 5 a", "visits: 3", "greedy: a 5", "fixed: 5 a"],
+        ["min: 5 a", "visits: 2", "greedy: a 4", "fixed: 5 a"],
+        [""; 4],
     ];
-    if !agree(["min: 1 2", "greedy: 1 2", "visits: 2"]) || wrong.into_iter().any(agree) {
+    if !right.into_iter().all(agree) || other_spaces.into_iter().chain(other_lists).any(agree) {
         return Err("the source's lines are misread".to_string());
     }
     Ok(())
@@ -136,4 +144,28 @@ pub fn examples() -> Result<(), String> {
         Some(k) => Err(format!("the model's reply to example {k} is {:?}, not {:?}", replies[k].0, replies[k].1)),
         None => Ok(()),
     }
+}
+
+/// The model gives these fixed spaces, and lists that are not the reduced basis of one are seen not to be.
+pub fn fixed_spaces() -> Result<(), String> {
+    let (hh, swap, cx) = ([4, 8, 1, 2], [2, 1, 8, 4], [3, 2, 4, 12]);
+    let replies = [
+        (fixed_space(0, &[], 0), Ok((vec![], 0))),
+        (fixed_space(1, &[2, 3], 2), Ok((vec![], 0))),
+        (fixed_space(2, &identity(2), 4), Ok((vec![1, 2, 4, 8], 0))),
+        (fixed_space(2, &hh, 4), Ok((vec![0b0101, 0b1010], 0))),
+        (fixed_space(2, &swap, 4), Ok((vec![0b0011, 0b1100], 0))),
+        (fixed_space(2, &cx, 9), Ok((vec![0b0010, 0b0100], 0))),
+        (fixed_space(2, &cx, 3), Err(5)),
+        (fixed_space(1, &[2, 2], 0), Err(4)),
+    ];
+    if let Some((reply, wanted)) = replies.iter().find(|(reply, wanted)| reply != wanted) {
+        return Err(format!("the model's fixed space is {reply:?}, not {wanted:?}"));
+    }
+    let wrong: [&[u64]; 8] = [&[], &[3], &[3, 8], &[3, 15], &[12, 3], &[3, 3], &[0, 3], &[3, 16]];
+    let seen = wrong.iter().all(|list| flaw(2, &swap, list).is_some()) && flaw(2, &swap, &[3, 12]).is_none();
+    if !seen || reduced(&[15, 12, 3]) != [3, 12] {
+        return Err("the reduced basis of a fixed space is mistaken".to_string());
+    }
+    Ok(())
 }

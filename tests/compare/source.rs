@@ -1,33 +1,40 @@
-//! The same lists from the Rust source, where its program is at hand.
+//! The same lists and fixed spaces from the Rust source, where its program (source_main.rs) is at hand.
+use crate::fixed::reduced;
 use std::fs::File;
 use std::io::{BufRead, BufReader, BufWriter, Write};
 use std::process::{Command, Stdio};
 
-/// An action and the lists that the library gave for it.
+/// An action, and the lists and the fixed space that the library gave for it.
 pub struct Listed {
     pub n: usize,
     pub rows: Vec<u64>,
     pub minimal: Vec<u64>,
-    pub greedy: Vec<u64>,
     pub looks: u64,
+    pub greedy: Vec<u64>,
+    pub fixed: Vec<u64>,
 }
 
 fn hexadecimal(words: &[u64]) -> String {
     words.iter().map(|word| format!(" {word:x}")).collect()
 }
 
-/// What the source should print for it, but for the visits.
-fn printed(listed: &Listed) -> [String; 2] {
-    [format!("min:{}", hexadecimal(&listed.minimal)), format!("greedy:{}", hexadecimal(&listed.greedy))]
+/// The words after a name; none where the line is another.
+fn read(line: &str, name: &str) -> Option<Vec<u64>> {
+    line.strip_prefix(name)?.split_whitespace().map(|word| u64::from_str_radix(word, 16).ok()).collect()
 }
 
-/// The visits of the source, which passes over known failures, are no more than the looks.
-pub fn agrees(listed: &Listed, lines: &[String; 3]) -> bool {
-    let visits = lines[2].strip_prefix("visits: ").and_then(|text| text.parse::<u64>().ok());
-    lines[..2] == printed(listed) && visits.is_some_and(|visits| visits <= listed.looks)
+/// The visits of the source, which passes over known failures, are no more than the looks. Its basis of the fixed space may be
+/// another one of the same space.
+pub fn agrees(listed: &Listed, [minimal, visits, greedy, fixed]: &[String; 4]) -> bool {
+    let visits = visits.strip_prefix("visits: ").and_then(|text| text.parse::<u64>().ok());
+    let same_space = |basis: Vec<u64>| basis.len() == listed.fixed.len() && reduced(&basis) == listed.fixed;
+    *minimal == format!("min:{}", hexadecimal(&listed.minimal))
+        && visits.is_some_and(|visits| visits <= listed.looks)
+        && *greedy == format!("greedy:{}", hexadecimal(&listed.greedy))
+        && read(fixed, "fixed:").is_some_and(same_space)
 }
 
-/// Asks the program for every list; how many actions differ.
+/// Asks the program for every action; how many differ.
 pub fn compare(program: &str, all: &[Listed]) -> std::io::Result<u64> {
     let path = format!("{program}.in");
     let mut input = BufWriter::new(File::create(&path)?);
@@ -40,16 +47,20 @@ pub fn compare(program: &str, all: &[Listed]) -> std::io::Result<u64> {
     let mut lines = BufReader::new(child.stdout.take().expect("its output is piped")).lines();
     let mut differ = 0;
     for listed in all {
-        let mut next = || lines.next().and_then(Result::ok).unwrap_or_default();
-        let three = [next(), next(), next()];
-        if !agrees(listed, &three) {
+        let said = std::array::from_fn(|_| lines.next().and_then(Result::ok).unwrap_or_default());
+        if !agrees(listed, &said) {
             differ += 1;
             if differ <= 3 {
-                println!("differs from the source: n = {}, rows{}", listed.n, hexadecimal(&listed.rows));
-                println!("  source  {three:?}\n  library {:?}, looks {}", printed(listed), listed.looks);
+                report(listed, &said);
             }
         }
     }
     child.wait()?;
     Ok(differ)
+}
+
+fn report(listed: &Listed, said: &[String; 4]) {
+    let Listed { n, rows, minimal, looks, greedy, fixed } = listed;
+    println!("differs from the source: n = {n}, rows {rows:x?}\n  source  {said:?}");
+    println!("  library min {minimal:x?}, looks {looks}, greedy {greedy:x?}, fixed {fixed:x?}");
 }

@@ -42,6 +42,9 @@ static void *run(void *lent) {
     case 4:
         turnlist_gates(QUBITS, w->gates, BYTES, w->rows, rows, &w->count);
         break;
+    case 5:
+        turnlist_fixed_space(QUBITS, w->rows, rows, w->list, rows, &w->count);
+        break;
     }
     return NULL;
 }
@@ -75,20 +78,22 @@ static void layer(struct work *w, int highest, int gates) {
 
 int main(void) {
     static struct work w;
-    static const char *const names[] = {"", "turnlist_minimal", "turnlist_greedy", "turnlist_rebuild", "turnlist_gates"};
-    size_t most[5] = {0}, bare;
+    static const char *const names[] = {
+        "", "turnlist_minimal", "turnlist_greedy", "turnlist_rebuild", "turnlist_gates", "turnlist_fixed_space",
+    };
+    size_t most[6] = {0}, bare;
     stack = aligned_alloc(4096, ROOM);
     if (stack == NULL) return 1;
     bare = used(&w, 0);
     for (int i = 0; i < 200; i++) {
         layer(&w, i % 6, i % 6 == 0 ? QUBITS : 8 * QUBITS);
-        int order[] = {4, 1, 2, 3};
-        for (int k = 0; k < 4; k++) {
+        int order[] = {4, 1, 5, 2, 3}; /* the greedy list is rebuilt */
+        for (int k = 0; k < 5; k++) {
             size_t bytes = used(&w, order[k]) - bare;
             if (most[order[k]] < bytes) most[order[k]] = bytes;
         }
     }
-    for (int k = 1; k < 5; k++) printf("%s %zu\n", names[k], most[k]);
+    for (int k = 1; k < 6; k++) printf("%s %zu\n", names[k], most[k]);
     free(stack);
     return 0;
 }

@@ -33,7 +33,7 @@ fn greedy_identity(name: &[u8], out: &mut [u64]) {
     let mut rows = [0u64; 64];
     rebuild::rebuild(32, &list, &mut rows);
     let a = transvection::clifford_to_transvections(32, &rows, out);
-    print_answer(name, transvection::figures_of(a));
+    print_answer(name, symplectic::figures_of(a));
     io::write_all(STDOUT_FILENO, b"\n");
 }
 

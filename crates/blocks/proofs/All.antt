@@ -3,6 +3,7 @@
 use mathlib.Core.List.{List, [], _∷_, _++_, map}
 use Prim.Native.Nat.{ℕ, zero, suc, _<_}
 use native.Mathlib.Nat.{le-of-suc-le-suc, not-suc-le-zero}
+use native.Mathlib.Omega.{arith}
 use lib.ListN.{length, getD}
 use Rattle.blocks.specs.Matrices.{All}
 
@@ -50,3 +51,8 @@ pub All·getD : {A : Type 0} (P : A → Type 0) (xs : List A) → All P xs → (
 All·getD P [] a d h i = h
 All·getD P (x ∷ xs) a d h zero = a .0
 All·getD P (x ∷ xs) a d h (suc i) = All·getD P xs (a .1) d h i
+
+-- from what holds at each index
+pub All·by-index : {A : Type 0} (P : A → Type 0) (xs : List A) (d : A) → ((i : ℕ) → i < length xs → P (getD xs i d)) → All P xs
+All·by-index P [] d h = tt
+All·by-index P (x ∷ xs) d h = (h 0 (omega arith), All·by-index P xs d (λ i l. h (suc i) (omega arith)))

@@ -4,7 +4,7 @@ use binar::Row;
 ghost use mathlib.Core.Path.{_≡_};
 ghost use mathlib.Core.List.{[], _∷_, _++_, map};
 ghost use Prim.Native.Nat.{_+_, _%_, _<_, min};
-ghost use lib.ListN.{take, length};
+ghost use lib.ListN.{take, drop, length};
 ghost use Rattle.binar.specs.Rows.{val, rowBound};
 ghost use Rattle.blocks.specs.Blocks.{room, rowsOf};
 ghost use Rattle.blocks.specs.Matrices.{times as timesOf, matmul, units};
@@ -54,6 +54,34 @@ pub fn push(b: Block, v: Row) -> Block
     } else {
         b
     }
+}
+
+// The first k rows.
+pub fn first_rows(b: Block, k: usize) -> Block
+    ensures { λ r. ⌜ rowsOf r ≡ take k (rowsOf b) ⌝ }
+{
+    if k < b.count {
+        let mut n = b;
+        n.count = k;
+        n
+    } else {
+        b
+    }
+}
+
+// The rows from k on.
+pub fn rows_from(b: Block, k: usize) -> Block
+    ensures { λ r. ⌜ rowsOf r ≡ drop k (rowsOf b) ⌝ }
+{
+    let m = length_of(b);
+    let first = lesser(k, m);
+    let count = m - first;
+    let mut n = empty();
+    for i in 0..count {
+        n.rows[i] = b.rows[first + i];
+    }
+    n.count = count;
+    n
 }
 
 // The unit rows, m of them, each as far as a row has columns.

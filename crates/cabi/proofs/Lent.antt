@@ -2,14 +2,18 @@
 -- Assumes nothing.
 use mathlib.Core.Path.{_≡_, refl, sym, ap, _∙_, subst}
 use mathlib.Core.List.{List}
-use Prim.Native.Nat.{ℕ, zero, suc, _≤_}
+use Prim.Native.Nat.{ℕ, zero, suc, _+_, _≤_}
 use native.Mathlib.Omega.{arith}
 use lib.ListN.{take}
+use Rattle.blocks.specs.Matrices.{All}
 use Rattle.blocks.specs.Words.{rowsOfWords}
 use Rattle.symplectic.specs.declared.Figures.{Figures}
-use Rattle.symplectic.specs.Turns.{product}
+use Rattle.symplectic.specs.Turns.{product, identityPlus}
 use Rattle.symplectic.specs.Replies.{Reply, Replays, Rebuilds}
 use Rattle.symplectic.proofs.Answered.{Meets}
+use Rattle.reduction.specs.Columns.{rank}
+use Rattle.reduction.specs.Pivots.{ReducedRows}
+use Rattle.fixed_space.specs.Promises.{Fixed, Spanning, InPlace, Complete, Reduced, Counted}
 use Rattle.transvection_exact.specs.NoneShorter.{NoneShorter}
 use Rattle.transvection_exact.specs.Answers.{Shortest, Exact}
 use Rattle.cabi.specs.Lent.{lentNumber, readFigures}
@@ -66,14 +70,9 @@ module _ (t : Figures) (budget count looks : ℕ) (counted : t .number ≡ 0 →
   same-count : t .number ≡ 0 → figures .count ≡ t .count
   same-count z = reads-count budget (t .number) count looks z ∙ counted z
 
-  reads-replays : (n : ℕ) (rows left : List ℕ) → Replays n rows left t → Replays n rows left (readFigures budget (t .number) count looks)
-  reads-replays n rows left h z = ap (λ (k : ℕ). product n (take k (rowsOfWords n left))) (same-count (answers z)) ∙ h (answers z)
-
-  reads-rebuilds : (n : ℕ) (turns left : List ℕ) → Rebuilds n turns left t → Rebuilds n turns left (readFigures budget (t .number) count looks)
-  reads-rebuilds n turns left h z = h (answers z)
-
-  reads-shortest : (n : ℕ) (rows : List ℕ) → Shortest n rows t → Shortest n rows (readFigures budget (t .number) count looks)
-  reads-shortest n rows h z = subst (NoneShorter n (rowsOfWords n rows)) (sym (same-count (answers z))) (h (answers z))
+  -- what holds of an answer's count
+  reads-answered : (P : ℕ → Type 0) → (t .number ≡ 0 → P (t .count)) → readFigures budget (t .number) count looks .number ≡ 0 → P (readFigures budget (t .number) count looks .count)
+  reads-answered P h z = subst P (sym (same-count (answers z))) (h (answers z))
 
   reads-exact : (n : ℕ) (rows out : List ℕ) → (t .number ≡ 0 → looks ≡ t .looks) → Exact n rows budget out t → Exact n rows budget out (readFigures budget (t .number) count looks)
   reads-exact n rows out drawn h =
@@ -102,7 +101,7 @@ module _ (reply : Reply) (left : List ℕ) (t : Figures) (before count : ℕ) (s
   pub lent-rebuilds : (n : ℕ) (turns : List ℕ) → Meets (Rebuilds n turns) reply left t
       → (t .number ≡ reply .figures .number) × ((left ≡ reply .words) × ((count ≡ lentNumber (t .number) (reply .figures .count) before) × Rebuilds n turns left (readFigures 0 (t .number) count 0)))
   lent-rebuilds n turns m =
-      let g = is-lent (m .0) (m .1 .0) in (g .0, (g .1 .0, (g .1 .1, reads-rebuilds t 0 count 0 (s .0) n turns left (m .1 .1))))
+      let g = is-lent (m .0) (m .1 .0) in (g .0, (g .1 .0, (g .1 .1, reads-answered t 0 count 0 (s .0) (λ k. rowsOfWords n left ≡ product n turns) (m .1 .1))))
 
   pub lent-replays : (n : ℕ) (rows : List ℕ) (most : ℕ) → Meets (λ l u. Replays n rows l u × (u .count ≤ most)) reply left t
       → (t .number ≡ reply .figures .number) × ((left ≡ reply .words) × ((count ≡ lentNumber (t .number) (reply .figures .count) before)
@@ -110,7 +109,33 @@ module _ (reply : Reply) (left : List ℕ) (t : Figures) (before count : ℕ) (s
   lent-replays n rows most m =
       let g = is-lent (m .0) (m .1 .0) in
       let few = reads-few 0 (t .number) count 0 most (λ z. omega (arith, s .0 z, m .1 .1 .1)) in
-      (g .0, (g .1 .0, (g .1 .1, (reads-replays t 0 count 0 (s .0) n rows left (m .1 .1 .0), few))))
+      (g .0, (g .1 .0, (g .1 .1, (reads-answered t 0 count 0 (s .0) (λ k. product n (take k (rowsOfWords n left)) ≡ rowsOfWords n rows) (m .1 .1 .0), few))))
+
+  pub lent-fixed : (n : ℕ) (rows : List ℕ) → Meets (λ l u. InPlace n rows l u × (Complete n rows l u × (Reduced n l u × Counted n rows u))) reply left t
+      → let read = readFigures 0 (t .number) count 0 in (t .number ≡ reply .figures .number) × ((left ≡ reply .words) × ((count ≡ lentNumber (t .number) (reply .figures .count) before)
+      × (InPlace n rows left read × (Complete n rows left read × (Reduced n left read × Counted n rows read)))))
+  lent-fixed n rows m =
+      let g = is-lent (m .0) (m .1 .0) in
+      let p = m .1 .1 in
+      let F = rowsOfWords n rows in (
+        g .0,
+        (
+          g .1 .0,
+          (
+            g .1 .1,
+            (
+              reads-answered t 0 count 0 (s .0) (λ k. All (Fixed n F) (take k (rowsOfWords n left))) (p .0),
+              (
+                reads-answered t 0 count 0 (s .0) (λ k. Spanning n F (take k (rowsOfWords n left))) (p .1 .0),
+                (
+                  reads-answered t 0 count 0 (s .0) (λ k. ReducedRows (take k (rowsOfWords n left))) (p .1 .1 .0),
+                  reads-answered t 0 count 0 (s .0) (λ k. k + rank (n + n) (identityPlus n F) ≡ n + n) (p .1 .1 .1),
+                ),
+              ),
+            ),
+          ),
+        ),
+      )
 
   module _ (earlier looks : ℕ) (d : Stored (t .number) (t .looks) earlier looks) (n : ℕ) (rows : List ℕ) (budget : ℕ) (out : List ℕ) where
     abbrev read : Figures
@@ -132,8 +157,11 @@ module _ (reply : Reply) (left : List ℕ) (t : Figures) (before count : ℕ) (s
               (
                 drawn,
                 (
-                  reads-replays t budget count looks (s .0) n rows left (p .0),
-                  (reads-shortest t budget count looks (s .0) n rows (p .1 .0), reads-exact t budget count looks (s .0) n rows out (d .0) (p .1 .1)),
+                  reads-answered t budget count looks (s .0) (λ k. product n (take k (rowsOfWords n left)) ≡ rowsOfWords n rows) (p .0),
+                  (
+                    reads-answered t budget count looks (s .0) (NoneShorter n (rowsOfWords n rows)) (p .1 .0),
+                    reads-exact t budget count looks (s .0) n rows out (d .0) (p .1 .1),
+                  ),
                 ),
               ),
             ),

@@ -6,6 +6,8 @@ ghost use Prim.Native.Nat.{_*_, _≤_};
 ghost use Rattle.blocks.specs.Words.{rowsOfWords};
 ghost use Rattle.symplectic.specs.Replies.{Replays, Rebuilds};
 ghost use Rattle.rebuild.specs.Rebuilds.{rebuildReply};
+ghost use Rattle.fixed_space.specs.FixedSpace.{fixedReply};
+ghost use Rattle.fixed_space.specs.Promises.{InPlace, Complete, Reduced, Counted};
 ghost use Rattle.transvection.specs.Greedy.{greedyReply};
 ghost use Rattle.transvection_exact.specs.Minimal.{minimalReply};
 ghost use Rattle.transvection_exact.specs.Answers.{Shortest, Exact};
@@ -49,11 +51,35 @@ pub extern "C" fn turnlist_greedy(n: u64, rows: &[u64], out: &mut [u64], count: 
     ensures few { λ r. ⌜ readFigures 0 r (now (count .exit)) 0 .count ≤ 4 * n ⌝ }
 {
     let answer = transvection::clifford_to_transvections(n, rows, out);
-    let greedy = transvection::figures_of(answer);
+    let greedy = symplectic::figures_of(answer);
     if greedy.number == 0 {
         *count = greedy.count;
     }
     greedy.number
+}
+
+// The reduced basis of all vectors that an action leaves in place.
+#[no_mangle]
+pub extern "C" fn turnlist_fixed_space(
+    n: u64,
+    rows: &[u64],
+    out: &mut [u64],
+    count: &mut u64,
+) -> u64
+    ensures answered { λ r. ⌜ r ≡ fixedReply n (now (rows .entry)) (now (out .entry)) .figures .number ⌝ }
+    ensures left { λ r. ⌜ now (out .exit) ≡ fixedReply n (now (rows .entry)) (now (out .entry)) .words ⌝ }
+    ensures counted { λ r. ⌜ now (count .exit) ≡ lentNumber r (fixedReply n (now (rows .entry)) (now (out .entry)) .figures .count) (now (count .entry)) ⌝ }
+    ensures in_place { λ r. ⌜ InPlace n (now (rows .entry)) (now (out .exit)) (readFigures 0 r (now (count .exit)) 0) ⌝ }
+    ensures complete { λ r. ⌜ Complete n (now (rows .entry)) (now (out .exit)) (readFigures 0 r (now (count .exit)) 0) ⌝ }
+    ensures reduced { λ r. ⌜ Reduced n (now (out .exit)) (readFigures 0 r (now (count .exit)) 0) ⌝ }
+    ensures dimension { λ r. ⌜ Counted n (now (rows .entry)) (readFigures 0 r (now (count .exit)) 0) ⌝ }
+{
+    let answer = fixed_space::clifford_fixed_space(n, rows, out);
+    let fixed = symplectic::figures_of(answer);
+    if fixed.number == 0 {
+        *count = fixed.count;
+    }
+    fixed.number
 }
 
 // The product of a list.

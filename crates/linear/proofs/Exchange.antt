@@ -133,3 +133,8 @@ module _ (S : VectorSpace) where
             omega (arith, length-append us xs),
         go (us ++ (x ∷ [])) xs (rw append-assoc e) (rw append-assoc a),
       )
+
+  -- the members behind others
+  pub indep-right : (us vs : List Car) → Indep S (us ++ vs) → Indep S vs
+  indep-right [] vs i = i
+  indep-right (u ∷ us) vs i = indep-right us vs (i .1)

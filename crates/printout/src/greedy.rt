@@ -8,5 +8,5 @@ pub(crate) fn list(n: u64, rows: &[u64], out: &mut [u64]) -> Figures
     ensures left { λ r. ⌜ now (out .exit) ≡ greedyReply n (now (rows .entry)) (now (out .entry)) .words ⌝ }
 {
     let answer = transvection::clifford_to_transvections(n, rows, out);
-    transvection::figures_of(answer)
+    symplectic::figures_of(answer)
 }

@@ -7,28 +7,27 @@ use native.Mathlib.Nat.{suc-ne-zero}
 use lib.ListN.{length, length-map, take, drop}
 use lib.Seq.{take-at, drop-at}
 use Rattle.binar.specs.Bits.{bit, dot, _⊕_}
-use Rattle.binar.proofs.Sums.{by-parts, zero-sum, sum-self}
+use Rattle.binar.proofs.Sums.{by-parts, zero-sum}
 use Rattle.blocks.specs.Matrices.{times, units, All}
 use Rattle.blocks.proofs.All.{All·map, All·any, All·to-map, All·left}
-use Rattle.blocks.proofs.Products.{times-sum, times-high, times-lt}
-use Rattle.blocks.proofs.Units.{units-length, units-lt, units-split, times-units}
+use Rattle.blocks.proofs.Products.{times-sum, times-lt}
+use Rattle.blocks.proofs.Units.{units-length, units-lt, units-split}
 use Rattle.linear.specs.Span.{InSpan, Indep}
 use Rattle.linear.specs.Maps.{Additive}
-use Rattle.linear.proofs.Sums.{swap4, eq-of-sum}
 use Rattle.linear.proofs.Exchange.{span-trans}
 use Rattle.linear.proofs.Instances.{𝕎}
 use Rattle.linear.proofs.Maps.{map-o}
-use Rattle.linear.proofs.Rows.{times-in, map-times, zero-by-units}
-use Rattle.symplectic.specs.Turns.{pairing}
+use Rattle.linear.proofs.Rows.{times-in, map-times}
+use Rattle.symplectic.specs.Turns.{pairing, identityPlus}
 use Rattle.symplectic.specs.inner.Vectors.{swapHalves}
-use Rattle.symplectic.proofs.Lists.{map-eq, eq-map}
+use Rattle.symplectic.proofs.Lists.{map-eq}
 use Rattle.symplectic.proofs.Pairings.{swap-sum, swap-swap, swap-over, swap-low, swap-high, pairing-swap}
-use Rattle.symplectic.proofs.Layers.{added, added-sum, added-lt, added-over, identityPlus-is}
+use Rattle.symplectic.proofs.Layers.{times-images, added, added-sum, added-lt, added-over, identityPlus-is, plus-times}
 use Rattle.reduction.specs.Columns.{rowReduceWithTransform, rank}
 use Rattle.reduction.specs.Residue.{residue, reduction, basis, transform, core, form}
 use Rattle.reduction.specs.inner.Plain.{reduced}
 use Rattle.reduction.proofs.Echelon.{Rref}
-use Rattle.reduction.proofs.Reduced.{reduced-rref, reduced-indep, reduced-lt, reduced-out}
+use Rattle.reduction.proofs.Reduced.{reduced-rref, reduced-indep, reduced-lt, reduced-out, reduced-unique}
 use Rattle.reduction.proofs.Transform.{basis-row-is, basis-transform-lt, basis-reduced, pivots-reduced, rank-plain, rank-width}
 use Rattle.reduction.proofs.Forms.{form-transposed, transposed-length}
 
@@ -114,18 +113,8 @@ module _ (n : ℕ) (F : List ℕ) (size : length F ≡ n + n) where
 
   pub residue-times : (u : ℕ) → times u (residue n F) ≡ added n F (swapHalves n u)
   residue-times u =
-      eq-of-sum 𝕎 (times u R) (A u)
-      (zero-by-units 𝕎 (λ z. times z R ⊕ A z)
-      (λ x y. ap₂ _⊕_ (times-sum R x y) (added-swap-sum n F x y) ∙ swap4 𝕎 (times x R) (times y R) (A x) (A y)) (n + n)
-      (All·map (λ z e. ap (λ t. t ⊕ A z) e ∙ sum-self (A z)) (units (n + n))
-      (eq-map (λ z. times z R) A (units (n + n)) (ap (λ m. map (λ z. times z R) (units m)) (sym residue-length) ∙ times-units R ∙ residue-is)))
-      (λ h. ap₂ _⊕_ (ap (λ m. times (h * 2 ^ m) R) (sym residue-length) ∙ times-high R h) (ap (added n F) (swap-over n h) ∙ map-o 𝕎 𝕎 (added n F) (added-sum n F)) ∙ zero-sum 0) u)
-    where
-      R : List ℕ
-      R = residue n F
-
-      A : ℕ → ℕ
-      A z = added n F (swapHalves n z)
+      ap (times u) residue-is
+      ∙ times-images (λ z. added n F (swapHalves n z)) (added-swap-sum n F) (n + n) (λ h. ap (added n F) (swap-over n h) ∙ map-o 𝕎 𝕎 (added n F) (added-sum n F)) u
 
   pub transform-lt : All (λ v. v < 2 ^ (n + n)) (transform n F)
   unfolding transform reduction
@@ -162,13 +151,37 @@ module _ (n : ℕ) (F : List ℕ) (size : length F ≡ n + n) where
     basis-size = subst (λ r. r ≤ n + n) (sym (basis-rank n F)) (rank-width (n + n) (residue n F) residue-lt)
 
     -- what the action adds to any vector
-    pub full : (z : ℕ) → InSpan 𝕎 (basis n F) (added n F z)
-    full z =
-        subst (InSpan 𝕎 (basis n F)) (residue-times (swapHalves n z) ∙ ap (added n F) (swap-swap n z) ∙ sym whole)
-        (span-trans 𝕎 (residue n F) (basis n F) (times (swapHalves n z) (residue n F))
-        (subst (λ B. All (InSpan 𝕎 B) (residue n F)) (sym (basis-plain n F)) (reduced-out (n + n) (residue n F) residue-lt)) (times-in (swapHalves n z) (residue n F)))
+    residue-full : (z : ℕ) → InSpan 𝕎 (residue n F) (added n F z)
+    residue-full z =
+        subst (InSpan 𝕎 (residue n F)) (residue-times (swapHalves n z) ∙ ap (added n F) (swap-swap n z) ∙ sym whole) (times-in (swapHalves n z) (residue n F))
       where
         whole : added n F z ≡ added n F (z % 2 ^ (n + n))
         whole =
             ap (added n F) (by-parts (n + n) z) ∙ added-sum n F (z / 2 ^ (n + n) * 2 ^ (n + n)) (z % 2 ^ (n + n))
             ∙ ap (λ t. t ⊕ added n F (z % 2 ^ (n + n))) (added-over n F size (z / 2 ^ (n + n))) ∙ zero-sum (added n F (z % 2 ^ (n + n)))
+
+    pub full : (z : ℕ) → InSpan 𝕎 (basis n F) (added n F z)
+    full z =
+        span-trans 𝕎 (residue n F) (basis n F) (added n F z)
+        (subst (λ B. All (InSpan 𝕎 B) (residue n F)) (sym (basis-plain n F)) (reduced-out (n + n) (residue n F) residue-lt)) (residue-full z)
+
+    -- I + F has the rank of the residue
+    pub plus-lt : All (λ v. v < 2 ^ (n + n)) (identityPlus n F)
+    plus-lt =
+        subst (All (λ v. v < 2 ^ (n + n))) (sym (identityPlus-is n F size))
+        (All·to-map (added n F) (λ v. v < 2 ^ (n + n)) (units (n + n)) (All·any (λ u. added-lt n F bounded u) (units (n + n))))
+
+    pub rank-plus : rank (n + n) (identityPlus n F) ≡ rank (n + n) (residue n F)
+    rank-plus =
+        rank-plain (n + n) (identityPlus n F) ∙ ap length (reduced-unique (n + n) (identityPlus n F) (residue n F) plus-lt residue-lt ins outs) ∙ sym (rank-plain (n + n) (residue n F))
+      where
+        ins : All (InSpan 𝕎 (residue n F)) (identityPlus n F)
+        ins =
+            subst (All (InSpan 𝕎 (residue n F))) (sym (identityPlus-is n F size))
+            (All·to-map (added n F) (InSpan 𝕎 (residue n F)) (units (n + n)) (All·any (λ u. residue-full u) (units (n + n))))
+
+        outs : All (InSpan 𝕎 (identityPlus n F)) (residue n F)
+        outs =
+            subst (All (InSpan 𝕎 (identityPlus n F))) (sym residue-is)
+            (All·to-map (λ u. added n F (swapHalves n u)) (InSpan 𝕎 (identityPlus n F)) (units (n + n))
+            (All·any (λ u. subst (InSpan 𝕎 (identityPlus n F)) (plus-times n F size (swapHalves n u)) (times-in (swapHalves n u) (identityPlus n F))) (units (n + n))))

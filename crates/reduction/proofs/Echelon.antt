@@ -157,3 +157,10 @@ module _ {A : Type 0} (has : ℕ → A → Bool) where
       All·at (λ q. (p < q) × (has q u ≡ false)) ps (r .2) i 0 (subst (λ n. i < n) (sym (rref-length ps us (r .3))) (le-of-suc-le-suc l)) .1 ∙ sym (eqb·suc-zero i)
   rref-at (p ∷ ps) (u ∷ us) r d (suc i) (suc j) l m =
       rref-at ps us (r .3) d i j (le-of-suc-le-suc l) (le-of-suc-le-suc m) ∙ sym (eqb·suc-suc i j)
+
+-- a list whose images are an echelon list
+pub rref-of-map : {A B : Type 0} (f : A → B) (has : ℕ → B → Bool) (ps : List ℕ) (us : List A) → Rref has ps (map f us) → Rref (λ c a. has c (f a)) ps us
+rref-of-map f has [] [] r = r
+rref-of-map f has [] (u ∷ us) r = r
+rref-of-map f has (p ∷ ps) [] r = r
+rref-of-map f has (p ∷ ps) (u ∷ us) r = (r .0, r .1, r .2, rref-of-map f has ps us (r .3))

@@ -1,17 +1,17 @@
--- The rows of I + F one by one, the halves of a list exchanged, and the basis and the core as front parts of a reduction.
+-- The rows of I + F one by one, a list with its first members behind the others, and the front and the back of a reduction: the basis, the core.
 -- Assumes nothing.
-use mathlib.Core.Path.{_≡_, sym, ap, ap₂, _∙_}
+use mathlib.Core.Path.{_≡_, refl, sym, ap, ap₂, _∙_}
 use mathlib.Core.List.{List, _++_, map, map-append}
 use Prim.Native.Nat.{ℕ, _+_, _-_, _%_, _^_, _≤_, _<_}
 use native.Mathlib.Omega.{arith}
-use lib.ListN.{length, take, drop, getD, length-map, length-append, length-drop, List·getD-append}
-use lib.Seq.{take-all, take-at, getD-append-add, getD-take, getD-drop}
+use lib.ListN.{length, take, drop, getD, length-map, length-append, length-drop, length-take, List·getD-append}
+use lib.Seq.{take-all, take-at, drop-at, getD-append-add, getD-take, getD-drop}
 use Rattle.binar.specs.Bits.{_⊕_}
 use Rattle.binar.specs.Rows.{width, rowBound}
 use Rattle.binar.proofs.Sums.{sum-comm}
 use Rattle.binar.proofs.Widths.{kept-whole}
-use Rattle.blocks.specs.Matrices.{times, units}
-use Rattle.blocks.proofs.All.{All·map, All·at}
+use Rattle.blocks.specs.Matrices.{times, units, All}
+use Rattle.blocks.proofs.All.{All·map, All·at, All·left}
 use Rattle.blocks.proofs.Products.{times-unit}
 use Rattle.blocks.proofs.Units.{units-length, units-lt, units-at}
 use Rattle.blocks.proofs.Values.{map-get}
@@ -22,7 +22,7 @@ use Rattle.symplectic.proofs.Layers.{added, added-is, identityPlus-is}
 use Rattle.reduction.specs.Columns.{Echelon, rows, rowReduceWithTransform, rank}
 use Rattle.reduction.specs.Residue.{residue, reduction, basis, transform, timesTransposed, core}
 use Rattle.reduction.proofs.Core.{residue-length}
-use Rattle.reduction.proofs.Transform.{basis-transform-lt, up-rank, transform-length}
+use Rattle.reduction.proofs.Transform.{transform-rows-lt, up-rank, transform-length}
 
 -- ---- the rows of I + F
 
@@ -38,30 +38,50 @@ module _ (n : ℕ) (F : List ℕ) (size : length F ≡ n + n) where
       ∙ added-is n F (getD U i 0) (All·at (λ u. u < 2 ^ (n + n)) U (units-lt (n + n)) i 0 l)
       ∙ ap (λ u. u ⊕ times u F) (units-at i (n + n) h) ∙ ap (λ t. 2 ^ i ⊕ t) (times-unit i F) ∙ sum-comm (2 ^ i) (getD F i 0)
 
-  -- row i of the residue is row j of I + F, where that is so of every list whose halves are exchanged
-  pub residue-at : (k i j : ℕ) → k ≡ n → j < k + k → ((l : List ℕ) → length l ≡ k + k → getD (drop k l ++ take k l) i 0 ≡ getD l j 0)
-      → getD F j 0 ⊕ 2 ^ j ≡ getD (residue n F) i 0
-  unfolding residue
-  residue-at k i j e h g =
-      let l = identityPlus n F in
-      sym (ap (λ m. getD (drop m l ++ take m l) i 0) (sym e) ∙ g l (omega (arith, plus-length)) ∙ plus-at j (omega arith))
+  -- its rows from row k on, then the first k: row i is row j, where that is so of every list of as many rows
+  pub plus-from-length : (k : ℕ) → length (drop k (identityPlus n F) ++ take k (identityPlus n F)) ≡ n + n
+  plus-from-length k =
+      let l = identityPlus n F in omega (arith, length-append (drop k l) (take k l), length-drop k l, length-take k l, plus-length)
 
--- ---- the upper and lower half of a list, exchanged
+  pub plus-from-at : (k i j : ℕ) → j < n + n → ((l : List ℕ) → length l ≡ n + n → getD (drop k l ++ take k l) i 0 ≡ getD l j 0)
+      → getD F j 0 ⊕ 2 ^ j ≡ getD (drop k (identityPlus n F) ++ take k (identityPlus n F)) i 0
+  plus-from-at k i j h g = sym (g (identityPlus n F) plus-length ∙ plus-at j h)
 
-pub lower-at : (n i : ℕ) (l : List ℕ) → i < n → length l ≡ n + n → getD (drop n l ++ take n l) i 0 ≡ getD l (i + n) 0
-lower-at n i l h e =
-    List·getD-append (drop n l) (take n l) 0 i (omega (arith, length-drop n l)) ∙ getD-drop n l i 0 ∙ ap (λ k. getD l k 0) (omega arith)
+pub residue-from : (n : ℕ) (F : List ℕ) → drop n (identityPlus n F) ++ take n (identityPlus n F) ≡ residue n F
+unfolding residue
+residue-from n F = refl
 
-pub upper-at : (n i : ℕ) (l : List ℕ) → n ≤ i → i < n + n → length l ≡ n + n → getD (drop n l ++ take n l) i 0 ≡ getD l (i - n) 0
-upper-at n i l h g e =
-    let k : i ≡ length (drop n l) + (i - n) = omega (arith, length-drop n l) in
-    ap (λ x. getD (drop n l ++ take n l) x 0) k ∙ getD-append-add (drop n l) (take n l) (i - n) 0 ∙ getD-take n l (i - n) 0 (omega arith)
+-- ---- a list with its first k members behind the others
+
+pub lower-at : (k i : ℕ) (l : List ℕ) → i + k < length l → getD (drop k l ++ take k l) i 0 ≡ getD l (i + k) 0
+lower-at k i l h =
+    List·getD-append (drop k l) (take k l) 0 i (omega (arith, length-drop k l)) ∙ getD-drop k l i 0 ∙ ap (λ j. getD l j 0) (omega arith)
+
+pub upper-at : (k i : ℕ) (l : List ℕ) → k ≤ length l → length l ≤ i + k → i < length l → getD (drop k l ++ take k l) i 0 ≡ getD l (i - (length l - k)) 0
+upper-at k i l g h b =
+    let j = i - (length l - k) in
+    let e : i ≡ length (drop k l) + j = omega (arith, length-drop k l) in
+    ap (λ x. getD (drop k l ++ take k l) x 0) e ∙ getD-append-add (drop k l) (take k l) j 0 ∙ getD-take k l j 0 (omega arith)
+
+-- ---- the front and the back of a reduction
+
+module _ (m : ℕ) (M : List ℕ) where
+  abbrev all : Echelon (ℕ × ℕ)
+  all = rowReduceWithTransform m M
+
+  pub front : (f : ℕ × ℕ → ℕ) (p : ℕ) → p ≡ rank m M → take p (map f (rows all)) ≡ map f (all .up)
+  front f p e =
+      ap (take p) (map-append f (all .up) (all .down)) ∙ take-at (map f (all .up)) (map f (all .down)) p (length-map (all .up) f ∙ up-rank m M ∙ sym e)
+
+  pub back : (f : ℕ × ℕ → ℕ) (p : ℕ) → p ≡ rank m M → drop p (map f (rows all)) ≡ map f (all .down)
+  back f p e =
+      ap (drop p) (map-append f (all .up) (all .down)) ∙ drop-at (map f (all .up)) (map f (all .down)) p (length-map (all .up) f ∙ up-rank m M ∙ sym e)
+
+  -- no row of the transform is cut, where a row has columns enough
+  pub uncut : length M ≤ width → All (λ a. a .1 % rowBound ≡ a .1) (rows all)
+  uncut w = All·map (λ a h. kept-whole (length M) (a .1) w h) (rows all) (transform-rows-lt m M)
 
 -- ---- the basis and the core
-
-front : (f : ℕ × ℕ → ℕ) (h : Echelon (ℕ × ℕ)) → take (length (h .up)) (map f (rows h)) ≡ map f (h .up)
-front f h =
-    ap (take (length (h .up))) (map-append f (h .up) (h .down)) ∙ take-at (map f (h .up)) (map f (h .down)) (length (h .up)) (length-map (h .up) f)
 
 module _ (n q p : ℕ) (F M R T : List ℕ) (size : length F ≡ q + q) (small : q ≤ maxQubits) (same : n ≡ q) (is : M ≡ residue q F)
     (r : R ≡ map (λ a. a .0) (rows (rowReduceWithTransform (n + n) M))) (t : T ≡ map (λ a. a .1 % rowBound) (rows (rowReduceWithTransform (n + n) M)))
@@ -70,30 +90,23 @@ module _ (n q p : ℕ) (F M R T : List ℕ) (size : length F ≡ q + q) (small :
   unfolding reduction
   same-rows = ap₂ (λ k l. rowReduceWithTransform (k + k) l) same is
 
-  up-count : p ≡ length (reduction q F .up)
-  up-count = k ∙ sym (up-rank (n + n) M) ∙ ap (λ h. length (h .up)) same-rows
-
   pub basis-end : take p R ≡ basis q F
   unfolding basis
-  basis-end = ap₂ take up-count (r ∙ ap (λ h. map (λ a. a .0) (rows h)) same-rows) ∙ front (λ a. a .0) (reduction q F)
+  basis-end = ap (take p) r ∙ front (n + n) M (λ a. a .0) p k ∙ ap (λ h. map (λ a. a .0) (h .up)) same-rows
 
-  -- no row of the transform is cut
-  whole : map (λ a. a .1 % rowBound) (reduction q F .up) ≡ map (λ a. a .1) (reduction q F .up)
-  unfolding reduction
-  whole =
-      map-eq (λ a. a .1 % rowBound) (λ a. a .1) (reduction q F .up)
-      (All·map (λ a h. kept-whole (length (residue q F)) (a .1) (omega (arith, residue-length q F size)) h) (reduction q F .up) (basis-transform-lt (q + q) (residue q F)))
+  wide : length M ≤ width
+  wide = omega (arith, ap length is, residue-length q F size)
 
   transform-end : take p T ≡ transform q F
   unfolding transform
   transform-end =
-      ap₂ take up-count (t ∙ ap (λ h. map (λ a. a .1 % rowBound) (rows h)) same-rows) ∙ front (λ a. a .1 % rowBound) (reduction q F) ∙ whole
+      let h = rowReduceWithTransform (n + n) M in
+      ap (take p) t ∙ front (n + n) M (λ a. a .1 % rowBound) p k
+      ∙ map-eq (λ a. a .1 % rowBound) (λ a. a .1) (h .up) (All·left (λ a. a .1 % rowBound ≡ a .1) (h .up) (h .down) (uncut (n + n) M wide))
+      ∙ ap (λ h. map (λ a. a .1) (h .up)) same-rows
 
   short : length (transform q F) ≤ width
-  unfolding transform reduction
-  short =
-      let h = reduction q F in
-      omega (arith, length-map (h .up) (λ a. a .1), length-append (h .up) (h .down), transform-length (q + q) (residue q F), residue-length q F size)
+  short = omega (arith, ap length (sym transform-end), length-take p T, ap length t, length-map (rows (rowReduceWithTransform (n + n) M)) (λ a. a .1 % rowBound), transform-length (n + n) M, wide)
 
   pub core-end : timesTransposed (take p R) (take width (take p T)) ≡ core q F
   unfolding core

@@ -122,6 +122,13 @@ module _ (m : ℕ) (M : List ℕ) where
         (All·map (λ v h. units-span m v h) (reduced m M .up) (All·left (λ v. v < 2 ^ m) (reduced m M .up) (reduced m M .down) reduced-lt)) in
         omega (arith, units-length m)
 
+    -- independent rows are as many as their basis
+    pub indep-length : Indep 𝕎 M → length (reduced m M .up) ≡ length M
+    indep-length i =
+        let l = steinitz 𝕎 M (reduced m M .up) reduced-indep basis-in in
+        let k = steinitz 𝕎 (reduced m M .up) M i reduced-out in
+        omega arith
+
 -- rows with one span have one reduced basis
 pub reduced-unique : (m : ℕ) (M N : List ℕ) → All (λ v. v < 2 ^ m) M → All (λ v. v < 2 ^ m) N → All (InSpan 𝕎 N) M → All (InSpan 𝕎 M) N
     → reduced m M .up ≡ reduced m N .up

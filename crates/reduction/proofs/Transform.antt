@@ -14,13 +14,17 @@ use Rattle.blocks.proofs.Products.{times-sum, matmul-is}
 use Rattle.blocks.proofs.Units.{units-length, units-lt, times-units}
 use Rattle.linear.specs.Span.{InSpan, Indep}
 use Rattle.linear.proofs.Sums.{add-zero}
+use Rattle.linear.proofs.Exchange.{span-trans}
 use Rattle.linear.proofs.Instances.{𝕎, Prod}
+use Rattle.linear.proofs.Maps.{span-map}
+use Rattle.linear.proofs.Rows.{units-span}
 use Rattle.symplectic.specs.Picks.{addBoth}
 use Rattle.symplectic.proofs.Lists.{map-eq, zip-map}
 use Rattle.reduction.specs.Columns.{rows, unreduced, columns, rowReduceWithTransform, rank}
 use Rattle.reduction.specs.inner.Plain.{reduced}
-use Rattle.reduction.proofs.Columns.{Closed, closed-columns, length-columns, mapRows, columns-map}
-use Rattle.reduction.proofs.Reduced.{pivots-length, up-length, up-width, reduced-indep, reduced-zero, reduced-out}
+use Rattle.reduction.proofs.Columns.{Closed, keeps-columns, closed-columns, length-columns, mapRows, columns-map}
+use Rattle.reduction.proofs.Echelon.{Rref, rref-of-map}
+use Rattle.reduction.proofs.Reduced.{reduced-rref, pivots-length, up-length, up-width, reduced-indep, reduced-zero, reduced-out}
 
 module _ (m : ℕ) (M : List ℕ) where
   start-is : zip M (units (length M)) ≡ map (λ u. (times u M, u)) (units (length M))
@@ -82,6 +86,22 @@ module _ (m : ℕ) (M : List ℕ) where
 
   pub pivots-reduced : rowReduceWithTransform m M .pivots ≡ reduced m M .pivots
   pivots-reduced = ap (λ h. h .pivots) rows-reduced
+
+  -- the rows above are an echelon list
+  pub up-rref : Rref (λ c a. bit c (a .0)) (rowReduceWithTransform m M .pivots) (rowReduceWithTransform m M .up)
+  up-rref =
+      let h = rowReduceWithTransform m M in
+      rref-of-map (λ a. a .0) bit (h .pivots) (h .up)
+      (subst (λ l. Rref bit (h .pivots) l) (sym basis-reduced) (subst (λ ps. Rref bit ps (reduced m M .up)) (sym pivots-reduced) (reduced-rref m M)))
+
+  -- what a row takes of the matrix, beside it, is a sum of the rows
+  pub beside-in : (u : ℕ) → u < 2 ^ length M → InSpan (Prod 𝕎 𝕎) (rows (rowReduceWithTransform m M)) (times u M, u)
+  unfolding rowReduceWithTransform
+  beside-in u l =
+      let start = zip M (units (length M)) in
+      span-trans (Prod 𝕎 𝕎) start (rows (rowReduceWithTransform m M)) (times u M, u) (keeps-columns (Prod 𝕎 𝕎) (λ c a. bit c (a .0)) m 0 (unreduced start))
+      (subst (λ S. InSpan (Prod 𝕎 𝕎) S (times u M, u)) (sym start-is)
+      (span-map 𝕎 (Prod 𝕎 𝕎) (λ v. (times v M, v)) (λ x y. ap (λ t. (t, x ⊕ y)) (times-sum M x y)) (units (length M)) u (units-span (length M) u l)))
 
   -- the rank is the number of rows above
   pub rank-plain : rank m M ≡ length (reduced m M .up)

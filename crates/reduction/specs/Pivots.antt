@@ -1,10 +1,10 @@
--- What a reduction of the code says of its pivots, and what it promises of them: the columns that carried the rank.
+-- What a reduction of the code says of its pivots, and what it promises of them: the columns that carried the rank. Rows that are reduced.
 -- Assumes nothing.
 use mathlib.Core.Path.{_≡_}
 use mathlib.Core.Bool.{true, false}
 use mathlib.Core.List.{List}
 use Prim.Native.Nat.{ℕ, _<_}
-use lib.ListN.{take, getD}
+use lib.ListN.{length, take, getD}
 use Rattle.binar.specs.Bits.{bit}
 use Rattle.reduction.specs.declared.Reduction.{Reduction}
 
@@ -24,3 +24,8 @@ NoOtherOnes rank pivots rows = (i j : ℕ) → i < rank → (j ≡ i → ⊥) �
 -- the pivots ascend strictly
 abbrev pub Ascending : ℕ → List ℕ → Type 0
 Ascending rank pivots = (i j : ℕ) → i < j → j < rank → getD pivots i 0 < getD pivots j 0
+
+-- rows that are reduced: each has its first one at a pivot, no other row has a one there, and the pivots ascend
+abbrev pub ReducedRows : List ℕ → Type 0
+ReducedRows rows =
+    (pivots : List ℕ) × (length pivots ≡ length rows) × FirstOnes (length rows) pivots rows × NoOtherOnes (length rows) pivots rows × Ascending (length rows) pivots

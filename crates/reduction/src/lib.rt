@@ -1,4 +1,4 @@
-// Reduction by columns: rows with their transform, and the rank; the residue of an action, its basis and core.
+// Reduction by columns: rows with their transform, and the rank; I + F, the residue of an action, its basis and core.
 // In the source: transvection_exact.rs, `residue_matrix`, `row_reduce_with_transform`, `residue_core`.
 use binar::Row;
 use binar::WIDTH;
@@ -14,7 +14,8 @@ ghost use Rattle.binar.specs.Bits.{bit as bitOf, _⊕_, select};
 ghost use Rattle.binar.specs.Rows.{val, width, rowBound, unit as unitOf};
 ghost use Rattle.blocks.specs.Blocks.{rowsOf};
 ghost use Rattle.blocks.specs.Matrices.{dots as dotsOf, All};
-ghost use Rattle.symplectic.specs.Actions.{maxQubits, qubits, matrix};
+ghost use Rattle.symplectic.specs.Actions.{mostRows, qubits, matrix};
+ghost use Rattle.symplectic.specs.Turns.{identityPlus};
 ghost use Rattle.symplectic.specs.Picks.{addBoth};
 ghost use Rattle.reduction.specs.Columns.{unreduced, rows as allRows, columns, rank as rankOf, rowReduceWithTransform};
 ghost use Rattle.reduction.specs.Pivots.{pivotsOf, FirstOnes, NoOtherOnes, Ascending};
@@ -34,18 +35,6 @@ pub struct Reduction {
 pub struct ResidueCore {
     pub basis: Block,
     pub core: Block,
-}
-
-fn first_rows(b: Block, k: usize) -> Block
-    ensures { λ r. ⌜ rowsOf r ≡ take k (rowsOf b) ⌝ }
-{
-    if k < b.count {
-        let mut n = b;
-        n.count = k;
-        n
-    } else {
-        b
-    }
 }
 
 // The first row from p on that has column c; the count where there is none.
@@ -150,7 +139,7 @@ fn with_unit(w: Row, k: usize, on: bool) -> Row
 fn dots(v: Row, b: Block) -> Row
     ensures { λ r. ⌜ val r ≡ dotsOf (take width (rowsOf b)) (val v) ⌝ }
 {
-    let rows = first_rows(b, WIDTH);
+    let rows = blocks::first_rows(b, WIDTH);
     let k = blocks::length_of(rows);
     let mut w = binar::zero();
     for i in 0..k {
@@ -172,23 +161,25 @@ fn times_transposed(b: Block, r: Block) -> Block
     n
 }
 
-// Where row i stands once the upper and lower n rows are exchanged.
-fn other_half(i: usize, n: usize) -> usize
-    requires { ⌜ (i < n + n) × (n ≤ maxQubits) ⌝ }
-    ensures { λ r. ⌜ (r < n + n) × ((l : List ℕ) → length l ≡ n + n → getD (drop n l ++ take n l) i 0 ≡ getD l r 0) ⌝ }
+// Which of m rows stands at i once the first k stand behind the others.
+fn rotated(i: usize, k: usize, m: usize) -> usize
+    requires { ⌜ (i < m) × (k ≤ m) × (m ≤ mostRows) ⌝ }
+    ensures { λ r. ⌜ (r < m) × ((l : List ℕ) → length l ≡ m → getD (drop k l ++ take k l) i 0 ≡ getD l r 0) ⌝ }
 {
-    if i < n { i + n } else { i - n }
+    let rest = m - k;
+    if i < rest { i + k } else { i - rest }
 }
 
-// I + F with the upper and lower n rows exchanged.
-pub fn residue(a: Action) -> Block
-    ensures { λ r. ⌜ rowsOf r ≡ residueOf (qubits a) (matrix a) ⌝ }
+// The rows of I + F from row k on, then the first k.
+fn identity_plus_from(a: Action, k: usize) -> Block
+    requires { ⌜ k ≤ qubits a + qubits a ⌝ }
+    ensures { λ r. ⌜ rowsOf r ≡ drop k (identityPlus (qubits a) (matrix a)) ++ take k (identityPlus (qubits a) (matrix a)) ⌝ }
 {
     let n = symplectic::qubits_of(a);
     let m = n + n;
     let mut r = blocks::empty();
     for i in 0..m {
-        let j = other_half(i, n);
+        let j = rotated(i, k, m);
         let w = binar::sum(a.rows[j], binar::unit(j));
         r.rows[i] = w;
     }
@@ -196,13 +187,27 @@ pub fn residue(a: Action) -> Block
     r
 }
 
+// I + F.
+pub fn identity_plus(a: Action) -> Block
+    ensures { λ r. ⌜ rowsOf r ≡ identityPlus (qubits a) (matrix a) ⌝ }
+{
+    identity_plus_from(a, 0)
+}
+
+// I + F with the upper and lower n rows exchanged.
+pub fn residue(a: Action) -> Block
+    ensures { λ r. ⌜ rowsOf r ≡ residueOf (qubits a) (matrix a) ⌝ }
+{
+    identity_plus_from(a, symplectic::qubits_of(a))
+}
+
 pub fn residue_core(a: Action) -> ResidueCore
     ensures { λ r. ⌜ (rowsOf (r .basis) ≡ basisOf (qubits a) (matrix a)) × (rowsOf (r .core) ≡ coreOf (qubits a) (matrix a)) ⌝ }
 {
     let n = symplectic::qubits_of(a);
     let r = row_reduce_with_transform(n + n, residue(a));
-    let basis = first_rows(r.rows, r.rank);
-    let transform = first_rows(r.transform, r.rank);
+    let basis = blocks::first_rows(r.rows, r.rank);
+    let transform = blocks::first_rows(r.transform, r.rank);
     ResidueCore {
         basis: basis,
         core: times_transposed(basis, transform),

@@ -20,6 +20,8 @@ const GREEDY: u64 = 1;
 
 const REBUILD: u64 = 2;
 
+const GATES: u64 = 3;
+
 // A record's header: the call, the size of a word in bytes, how many words are lent and listed, and the answer.
 struct Case {
     kind: u64,
@@ -57,9 +59,9 @@ fn gate_words(n: u64, words: &[u64], out: &mut [u64]) -> Figures
 }
 
 fn known(kind: u64) -> bool
-    ensures { λ r. ⌜ (r ≡ true → kind < 4) ⌝ }
+    ensures { λ r. ⌜ (r ≡ true → kind < 5) ⌝ }
 {
-    kind < 4
+    kind < 5
 }
 
 // The call of a known kind.
@@ -72,13 +74,17 @@ fn call(c: Case, lent: &[u64], out: &mut [u64]) -> Figures
     }
     if c.kind == GREEDY {
         let a = transvection::clifford_to_transvections(c.n, lent, out);
-        return transvection::figures_of(a);
+        return symplectic::figures_of(a);
     }
     if c.kind == REBUILD {
         let a = rebuild::rebuild(c.n, lent, out);
         return rebuild::figures_of(a);
     }
-    gate_words(c.n, lent, out)
+    if c.kind == GATES {
+        return gate_words(c.n, lent, out);
+    }
+    let a = fixed_space::clifford_fixed_space(c.n, lent, out);
+    symplectic::figures_of(a)
 }
 
 // ---- the records

@@ -12,8 +12,8 @@ ghost use Rattle.replay.specs.inner.Records.{HasRoom};
 
 // How many records of each kind agree and differ, and how many were not read.
 struct Score {
-    agree: [u64; 4],
-    differ: [u64; 4],
+    agree: [u64; 5],
+    differ: [u64; 5],
     unread: u64,
 }
 
@@ -27,8 +27,8 @@ fn more(x: u64) -> u64 {
     if x < u64::MAX { x + 1 } else { x }
 }
 
-fn one_more(counts: [u64; 4], k: usize) -> [u64; 4]
-    requires { ⌜ k < 4 ⌝ }
+fn one_more(counts: [u64; 5], k: usize) -> [u64; 5]
+    requires { ⌜ k < 5 ⌝ }
 {
     let mut c = counts;
     c[k] = more(c[k]);
@@ -117,6 +117,7 @@ fn print_score(t: Score) {
     print_kind(b"greedy ", t.agree[1], t.differ[1]);
     print_kind(b"rebuild ", t.agree[2], t.differ[2]);
     print_kind(b"gates ", t.agree[3], t.differ[3]);
+    print_kind(b"fixed ", t.agree[4], t.differ[4]);
     if t.unread == 0 {
         return;
     }
@@ -128,8 +129,8 @@ fn print_score(t: Score) {
 // Takes at most 100,000 steps; input whose end is not met by then counts as one record that was not read.
 pub(crate) fn run() {
     let mut t = Score {
-        agree: [0; 4],
-        differ: [0; 4],
+        agree: [0; 5],
+        differ: [0; 5],
         unread: 0,
     };
     for _ in 0u64..100000 {

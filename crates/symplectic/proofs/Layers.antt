@@ -6,13 +6,13 @@ use mathlib.Core.List.{List, map, zip, zipWith}
 use Prim.Native.Nat.{ℕ, _+_, _*_, _/_, _%_, _^_, _<_}
 use native.Mathlib.Nat.{mod-lt, mod-eq-of-lt, mul-mod-left}
 use lib.Pow.{pow-pos}
-use lib.ListN.{length}
+use lib.ListN.{length, length-map}
 use Rattle.binar.specs.Bits.{_⊻_, _⊕_}
-use Rattle.binar.proofs.Sums.{bxor-self, sum-assoc, sum-comm, zero-sum, sum-lt, sum-low, by-parts}
+use Rattle.binar.proofs.Sums.{bxor-self, sum-assoc, sum-comm, sum-self, zero-sum, sum-lt, sum-low, by-parts}
 use Rattle.blocks.specs.Matrices.{times, units, All}
 use Rattle.blocks.proofs.All.{All·map, All·any, All·of-map, All·to-map}
 use Rattle.blocks.proofs.Products.{times-sum, times-high, times-low, times-lt}
-use Rattle.blocks.proofs.Units.{units-lt, times-units}
+use Rattle.blocks.proofs.Units.{units-length, units-lt, times-units}
 use Rattle.linear.specs.Maps.{Additive}
 use Rattle.linear.proofs.Sums.{swap4, self-left, eq-of-sum}
 use Rattle.linear.proofs.Instances.{𝔹, 𝕎}
@@ -20,10 +20,25 @@ use Rattle.linear.proofs.Maps.{same-of-beq}
 use Rattle.linear.proofs.Rows.{zero-by-units}
 use Rattle.symplectic.specs.Turns.{pairing, followed, product, allOf, pairAlike, symplectic, identityPlus}
 use Rattle.symplectic.specs.inner.Vectors.{run}
-use Rattle.symplectic.proofs.Lists.{map-eq, all-true, true-all, zip-map, zipWith-map}
+use Rattle.symplectic.proofs.Lists.{map-eq, eq-map, all-true, true-all, zip-map, zipWith-map}
 use Rattle.symplectic.proofs.Pairings.{𝕡, pairing-sum, pairing-comm, pairing-zero, pair-over}
 use Rattle.symplectic.proofs.Products.{run-sum, run-over, run-pairing, run-times, turn-pairing, followed-times, followed-length, product-run, product-length}
 use Rattle.symplectic.proofs.Wall.{Residue, pairs-of}
+
+-- a row times the images of the units is the row's image
+pub times-images : (f : ℕ → ℕ) → Additive 𝕎 𝕎 f → (m : ℕ) → ((h : ℕ) → f (h * 2 ^ m) ≡ 0) → (u : ℕ) → times u (map f (units m)) ≡ f u
+times-images f a m over u =
+    eq-of-sum 𝕎 (times u R) (f u)
+    (zero-by-units 𝕎 (λ z. times z R ⊕ f z) (λ x y. ap₂ _⊕_ (times-sum R x y) (a x y) ∙ swap4 𝕎 (times x R) (times y R) (f x) (f y)) m
+    (All·map (λ z e. ap (λ t. t ⊕ f z) e ∙ sum-self (f z)) (units m)
+    (eq-map (λ z. times z R) f (units m) (ap (λ k. map (λ z. times z R) (units k)) (sym long) ∙ times-units R)))
+    (λ h. ap₂ _⊕_ (ap (λ k. times (h * 2 ^ k) R) (sym long) ∙ times-high R h) (over h) ∙ zero-sum 0) u)
+  where
+    R : List ℕ
+    R = map f (units m)
+
+    long : length (map f (units m)) ≡ m
+    long = length-map (units m) f ∙ units-length m
 
 -- ---- what an action adds to a vector: nothing to columns from 2n on
 
@@ -102,6 +117,9 @@ module _ (n : ℕ) (F : List ℕ) (size : length F ≡ n + n) where
       ap (λ l. zipWith _⊕_ l (units (n + n))) (sym F-is) ∙ zipWith-map _⊕_ (λ u. times u F) (units (n + n))
       ∙ map-eq (λ u. times u F ⊕ u) (added n F) (units (n + n))
       (All·map (λ u e. sum-comm (times u F) u ∙ sym e) (units (n + n)) (added-unit n F))
+
+  pub plus-times : (u : ℕ) → times u (identityPlus n F) ≡ added n F u
+  plus-times u = ap (times u) identityPlus-is ∙ times-images (added n F) (added-sum n F) (n + n) added-over u
 
   -- ---- the test
 

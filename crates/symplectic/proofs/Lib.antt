@@ -8,5 +8,6 @@ pub mod Arrays
 pub mod Tests
 pub mod Questions
 pub mod Answered
+pub mod Listings
 pub mod Picked
 pub mod FirstPicks

@@ -1,6 +1,9 @@
--- What the answer of the shared questions says.
+-- What the answer of the shared questions says, and that of a call which lists without a search.
 -- Assumes nothing.
 use Prim.Native.Nat.{ℕ}
+use Rattle.symplectic.specs.declared.Figures.{Figures}
+use Rattle.symplectic.specs.declared.Listing.{Listing}
+use Rattle.symplectic.specs.declared.Listing.the-variants as listing
 use Rattle.symplectic.specs.declared.Question.{Question}
 use Rattle.symplectic.specs.declared.Question.the-variants.{Passed, TooManyQubits, WrongRowCount, RowTooWide, NotSymplectic}
 
@@ -11,3 +14,12 @@ numberOf TooManyQubits = 1
 numberOf WrongRowCount = 2
 numberOf RowTooWide = 3
 numberOf NotSymplectic = 4
+
+-- its number, its count and its looks, of which there are none. Open to users
+abbrev pub figuresOf : Listing → Figures
+figuresOf (listing.Listed count) = record { number = 0; count = count; looks = 0 }
+figuresOf listing.TooManyQubits = record { number = 1; count = 0; looks = 0 }
+figuresOf listing.WrongRowCount = record { number = 2; count = 0; looks = 0 }
+figuresOf listing.RowTooWide = record { number = 3; count = 0; looks = 0 }
+figuresOf listing.NotSymplectic = record { number = 4; count = 0; looks = 0 }
+figuresOf listing.OutputTooShort = record { number = 5; count = 0; looks = 0 }

@@ -11,6 +11,10 @@ use Rattle.symplectic.specs.Actions.{maxQubits}
 use Rattle.symplectic.specs.Turns.{allOf, symplectic, product}
 use Rattle.symplectic.specs.declared.Figures.{Figures}
 
+-- the figures of a call once it has asked: the number of the question that was answered no, or 0, and nothing listed. Open to users
+abbrev pub asked : ℕ → Figures
+asked number = record { number = number; count = 0; looks = 0 }
+
 -- a call's whole answer. This record and the two below are plain data, open to users
 pub record Reply : Type 0 where
   -- its number (0 for an answer, else that of the question that was answered no), how many vectors or rows it listed, and how many

@@ -12,8 +12,8 @@ ghost use Rattle.blocks.specs.Words.{rowsOfWords, laid};
 ghost use Rattle.symplectic.specs.Turns.{followed as followedOf, product as productOf, symplectic};
 ghost use Rattle.symplectic.specs.inner.Vectors.{swapHalves, pairsAsBasis};
 ghost use Rattle.symplectic.specs.Actions.{maxQubits, capped, qubits, matrix, padded};
-ghost use Rattle.symplectic.specs.Replies.{fitAll, actionQuestions};
-ghost use Rattle.symplectic.specs.Answers.{numberOf};
+ghost use Rattle.symplectic.specs.Replies.{fitAll, actionQuestions, asked};
+ghost use Rattle.symplectic.specs.Answers.{numberOf, figuresOf};
 
 // The most qubits of an action, and the most rows.
 pub const MAX_QUBITS: u64 = 32;
@@ -41,6 +41,16 @@ pub enum Question {
     WrongRowCount,
     RowTooWide,
     NotSymplectic,
+}
+
+// What a call that lists vectors without a search answers: how many it listed, or the first question that is answered no.
+pub enum Listing {
+    Listed { count: u64 },
+    TooManyQubits,
+    WrongRowCount,
+    RowTooWide,
+    NotSymplectic,
+    OutputTooShort,
 }
 
 // The qubits of an action: n, and the most where n is above that.
@@ -211,4 +221,56 @@ pub fn action_questions(n: u64, words: &[u64]) -> Question
         return Question::NotSymplectic;
     }
     Question::Passed
+}
+
+// Questions 1 to 4, for a call that answers a listing: the refusal, or that nothing is listed so far.
+pub fn listing_questions(n: u64, words: &[u64]) -> Listing
+    ensures { λ r. ⌜ figuresOf r ≡ asked (actionQuestions n (rowsOfWords n (now (words .entry)))) ⌝ }
+{
+    let question = action_questions(n, words);
+    match question {
+        Question::TooManyQubits => Listing::TooManyQubits,
+        Question::WrongRowCount => Listing::WrongRowCount,
+        Question::RowTooWide => Listing::RowTooWide,
+        Question::NotSymplectic => Listing::NotSymplectic,
+        Question::Passed => Listing::Listed { count: 0 },
+    }
+}
+
+// The number and the count that a listing stands for.
+pub fn figures_of(r: Listing) -> Figures
+    ensures { λ t. ⌜ t ≡ figuresOf r ⌝ }
+{
+    match r {
+        Listing::Listed { count } => Figures {
+            number: 0,
+            count: count,
+            looks: 0,
+        },
+        Listing::TooManyQubits => Figures {
+            number: 1,
+            count: 0,
+            looks: 0,
+        },
+        Listing::WrongRowCount => Figures {
+            number: 2,
+            count: 0,
+            looks: 0,
+        },
+        Listing::RowTooWide => Figures {
+            number: 3,
+            count: 0,
+            looks: 0,
+        },
+        Listing::NotSymplectic => Figures {
+            number: 4,
+            count: 0,
+            looks: 0,
+        },
+        Listing::OutputTooShort => Figures {
+            number: 5,
+            count: 0,
+            looks: 0,
+        },
+    }
 }

@@ -1,6 +1,6 @@
 -- What the greedy call replies: each refusal in its turn, and the whole list where every question is passed.
 -- Assumes nothing.
-use mathlib.Core.Path.{_≡_, sym, ap, _∙_, subst}
+use mathlib.Core.Path.{_≡_, refl, sym, _∙_, subst}
 use mathlib.Core.List.{List}
 use Prim.Native.Nat.{ℕ, suc, _*_, _+_, _^_, _≤_, _<_}
 use native.Mathlib.Omega.{arith}
@@ -12,10 +12,9 @@ use Rattle.symplectic.specs.Actions.{maxQubits}
 use Rattle.symplectic.specs.declared.Figures.{Figures}
 use Rattle.symplectic.specs.Replies.{Reply, refused, listed, actionQuestions, listQuestions, Replays}
 use Rattle.symplectic.proofs.Questions.{question-2, passed-size, passed-count, passed-rows, passed-symplectic, list-refused, list-known, reply-refused}
-use Rattle.symplectic.proofs.Answered.{Meets, Holds, holds-unless, meets-refused, meets-answer, rows-wide, refused-replays, listed-replays}
-use Rattle.transvection.specs.declared.Listing.the-variants.{Listed}
+use Rattle.symplectic.proofs.Answered.{Holds, holds-unless, rows-wide, refused-replays, listed-replays}
+use Rattle.symplectic.proofs.Listings.{ListCall}
 use Rattle.transvection.specs.Greedy.{greedyList, greedyReply}
-use Rattle.transvection.specs.Answers.{figuresOf}
 use Rattle.transvection.proofs.Records.{Action}
 use Rattle.transvection.proofs.Ends.{greedy-product, greedy-length, greedy-lt}
 
@@ -47,21 +46,13 @@ module _ (n : ℕ) (rows out : List ℕ) where
   greedy-refusal : (k : ℕ) → Holds Promised (refused (suc k) 0 out)
   greedy-refusal k = (refused-replays n rows k 0 out, omega arith)
 
-  pub greedy-replays : Holds Promised (greedyReply n rows out)
+  greedy-replays : Holds Promised (greedyReply n rows out)
   unfolding greedyReply
   greedy-replays = holds-unless Promised asked out answer greedy-refusal greedy-answer
 
-  pub greedy-refused : (k : ℕ) (t : Figures) → listQuestions n (rowsOfWords n rows) (4 * n + 2) (length out) ≡ suc k → t ≡ refused (suc k) 0 out .figures
-      → Meets Promised (greedyReply n rows out) out t
+  pub greedy-call : ListCall Promised n rows (4 * n + 2) (greedyList n (rowsOfWords n rows)) out (greedyReply n rows out)
   unfolding greedyReply
-  greedy-refused k t = meets-refused Promised asked out answer greedy-replays t k
-
-  -- an answer lays the whole list into the words
-  pub greedy-listed : (count : ℕ) (left : List ℕ) → listQuestions n (rowsOfWords n rows) (4 * n + 2) (length out) ≡ 0
-      → count ≡ length (greedyList n (rowsOfWords n rows)) → left ≡ laid n (greedyList n (rowsOfWords n rows)) out
-      → Meets Promised (greedyReply n rows out) left (figuresOf (Listed count))
-  unfolding greedyReply
-  greedy-listed count left e c l = meets-answer Promised asked out answer greedy-replays (figuresOf (Listed count)) e left (ap (λ (k : ℕ). figuresOf (Listed k)) c) l
+  greedy-call = record { is = refl; holds = greedy-replays }
 
   -- the listed vectors have 2n columns
   pub greedy-fits : All (λ v. v < 2 ^ (n + n)) (take (greedyReply n rows out .figures .count) (rowsOfWords n (greedyReply n rows out .words)))

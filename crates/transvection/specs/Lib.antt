@@ -1,3 +1,2 @@
 pub mod Greedy
-pub mod Answers
 pub mod inner

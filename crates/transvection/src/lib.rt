@@ -2,8 +2,7 @@
 // In the source: transvection.rs, `clifford_to_transvections`, `symplectic_residue_matrix`, `next_transvection`.
 use binar::Row;
 use symplectic::Action;
-use symplectic::Figures;
-use symplectic::Question;
+use symplectic::Listing;
 ghost use mathlib.Core.Path.{_≡_};
 ghost use mathlib.Core.List.{reverse};
 ghost use Prim.Native.Nat.{_+_, _*_, _^_, _≤_, _<_};
@@ -14,8 +13,8 @@ ghost use Rattle.blocks.specs.Words.{laid};
 ghost use Rattle.symplectic.specs.Turns.{pairing, identityPlus};
 ghost use Rattle.symplectic.specs.Actions.{maxQubits, qubits, matrix};
 ghost use Rattle.symplectic.specs.Replies.{Replays};
+ghost use Rattle.symplectic.specs.Answers.{figuresOf};
 ghost use Rattle.transvection.specs.Greedy.{firstNonzero, nextTransvection, recorded, greedyReply};
-ghost use Rattle.transvection.specs.Answers.{figuresOf};
 ghost use Rattle.transvection.specs.inner.Searches.{chosen, oneFrom, withFrom, pairFrom};
 ghost use Rattle.transvection.specs.inner.Kept.{recordRoom, turns};
 
@@ -32,16 +31,6 @@ enum Found {
 struct Record {
     rows: [Row; RECORD_ROOM],
     count: usize,
-}
-
-// What the call answers: how many vectors it listed, or the first question that is answered no.
-pub enum Listing {
-    Listed { count: u64 },
-    TooManyQubits,
-    WrongRowCount,
-    RowTooWide,
-    NotSymplectic,
-    OutputTooShort,
 }
 
 // Row i of I + F, from row i of F.
@@ -190,44 +179,6 @@ fn store_reversed(n: u64, kept: Record, out: &mut [u64])
     }
 }
 
-// The figures of an answer.
-pub fn figures_of(r: Listing) -> Figures
-    ensures { λ t. ⌜ t ≡ figuresOf r ⌝ }
-{
-    match r {
-        Listing::Listed { count } => Figures {
-            number: 0,
-            count: count,
-            looks: 0,
-        },
-        Listing::TooManyQubits => Figures {
-            number: 1,
-            count: 0,
-            looks: 0,
-        },
-        Listing::WrongRowCount => Figures {
-            number: 2,
-            count: 0,
-            looks: 0,
-        },
-        Listing::RowTooWide => Figures {
-            number: 3,
-            count: 0,
-            looks: 0,
-        },
-        Listing::NotSymplectic => Figures {
-            number: 4,
-            count: 0,
-            looks: 0,
-        },
-        Listing::OutputTooShort => Figures {
-            number: 5,
-            count: 0,
-            looks: 0,
-        },
-    }
-}
-
 // A list of turns whose product is the lent action, at most four for each qubit.
 pub fn clifford_to_transvections(n: u64, rows: &[u64], out: &mut [u64]) -> Listing
     ensures answered { λ r. ⌜ figuresOf r ≡ greedyReply n (now (rows .entry)) (now (out .entry)) .figures ⌝ }
@@ -235,22 +186,10 @@ pub fn clifford_to_transvections(n: u64, rows: &[u64], out: &mut [u64]) -> Listi
     ensures replays { λ r. ⌜ Replays n (now (rows .entry)) (now (out .exit)) (figuresOf r) ⌝ }
     ensures few { λ r. ⌜ figuresOf r .count ≤ 4 * n ⌝ }
 {
-    let question = symplectic::action_questions(n, rows);
-    match question {
-        Question::TooManyQubits => {
-            return Listing::TooManyQubits;
-        }
-        Question::WrongRowCount => {
-            return Listing::WrongRowCount;
-        }
-        Question::RowTooWide => {
-            return Listing::RowTooWide;
-        }
-        Question::NotSymplectic => {
-            return Listing::NotSymplectic;
-        }
-        Question::Passed => {}
-    }
+    let asked = symplectic::listing_questions(n, rows);
+    let Listing::Listed { count: _ } = asked else {
+        return asked;
+    };
     let wanted = n * 4 + 2;
     if out.len() < wanted as usize {
         return Listing::OutputTooShort;

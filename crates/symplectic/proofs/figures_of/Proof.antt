@@ -1,11 +1,11 @@
 -- `figures_of` gives each case of the answer its number, its count and its looks, those of `figuresOf`.
 -- Assumes nothing.
 use mathlib.Core.Path.{_≡_, sym, ap}
-use Rattle.transvection.specs.declared.Listing.the-variants.{Listed, TooManyQubits, WrongRowCount, RowTooWide, NotSymplectic, OutputTooShort}
-use Rattle.transvection.specs.Answers.{figuresOf}
+use Rattle.symplectic.specs.declared.Listing.the-variants.{Listed, TooManyQubits, WrongRowCount, RowTooWide, NotSymplectic, OutputTooShort}
+use Rattle.symplectic.specs.Answers.{figuresOf}
 use borrow.Author.Needs.{needs}
-use Rattle.transvection.proofs.figures_of.Statement.{statement}
-use Rattle.transvection.proofs.figures_of.Tie as tie
+use Rattle.symplectic.proofs.figures_of.Statement.{statement}
+use Rattle.symplectic.proofs.figures_of.Tie as tie
 
 enum-known-r : tie.Need-enum-known-r
 enum-known-r c = search needs

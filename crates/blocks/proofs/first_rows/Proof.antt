@@ -4,10 +4,10 @@ use mathlib.Core.Path.{sym, ap, _∙_}
 use lib.ListN.{length, take, length-take}
 use lib.Seq.{take-take, take-all}
 use native.Mathlib.Omega.{arith}
 use Rattle.blocks.specs.Blocks.{vals, rowsOf}
 use Rattle.blocks.proofs.Values.{rows-are}
-use Rattle.reduction.proofs.first_rows.Statement.{statement}
-use Rattle.reduction.proofs.first_rows.Tie as tie
+use Rattle.blocks.proofs.first_rows.Statement.{statement}
+use Rattle.blocks.proofs.first_rows.Tie as tie
 
 returns : tie.Need-returns
 returns c =

@@ -1,0 +1,26 @@
+-- The fixed space of an action (`clifford_fixed_space`): all v with vF = v, by its reduced basis.
+-- Assumes nothing.
+use mathlib.Core.List.{List, map}
+use Prim.Native.Nat.{ℕ, _+_}
+use lib.ListN.{length}
+use Rattle.blocks.specs.Words.{rowsOfWords}
+use Rattle.symplectic.specs.Turns.{identityPlus}
+use Rattle.symplectic.specs.Replies.{Reply, listed, unlessRefused, listQuestions}
+use Rattle.reduction.specs.Columns.{rowReduceWithTransform}
+
+-- the kernel of a matrix of m columns, all u with uM = 0: the rows of the transform beside the rows that became zero
+unfoldable pub kernel : ℕ → List ℕ → List ℕ
+kernel m M = map (λ a. a .1) (rowReduceWithTransform m M .down)
+
+-- the reduced basis of the rows of a matrix of m columns
+unfoldable pub reducedBasis : ℕ → List ℕ → List ℕ
+reducedBasis m M = map (λ a. a .0) (rowReduceWithTransform m M .up)
+
+-- vF = v just where v(I + F) = 0
+unfoldable pub fixedSpace : ℕ → List ℕ → List ℕ
+fixedSpace n F = reducedBasis (n + n) (kernel (n + n) (identityPlus n F))
+
+-- questions 1 to 5, with 2n output words
+unfoldable pub fixedReply : ℕ → List ℕ → List ℕ → Reply
+fixedReply n words out =
+    let F = rowsOfWords n words in unlessRefused (listQuestions n F (n + n) (length out)) out (listed n (fixedSpace n F) 0 out)

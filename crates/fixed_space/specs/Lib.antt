@@ -1,0 +1,2 @@
+pub mod FixedSpace
+pub mod Promises
