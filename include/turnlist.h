@@ -12,7 +12,7 @@
  * Each call asks its questions in the order of its refusals below, and returns the number of the first one answered no.
  *
  *   - 0: an answer. *count says how many words stand at the start of out, and the words past them are unchanged.
- *   - Any other number: a refusal. Every lent word is unchanged, *count and *looks too. The count of a refusal is 0.
+ *   - Any other number: a refusal. Nothing is listed, and every lent word is unchanged, *count and *looks too.
  *
  * What the caller owes, and nothing checks:
  *

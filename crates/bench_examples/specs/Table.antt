@@ -1,4 +1,5 @@
--- The starred bench examples of document 01, as one table of calls and expected answers. Expected values are literals.
+-- The starred bench examples of document 01, and examples of the fixed space (document 02, item 3), as one table of calls and expected answers.
+-- Expected values are literals.
 -- In each call the lent output words hold 9 at entry, so that the words left unchanged can be seen. The actions of H and CX are made
 -- from the gate sheet.
 -- Assumes nothing.
@@ -7,6 +8,7 @@ use Prim.Native.Nat.{ℕ, _+_}
 use lib.ListN.{replicate}
 use Rattle.symplectic.specs.Replies.{Reply}
 use Rattle.gates.specs.Sequences.{gatesReply}
+use Rattle.fixed_space.specs.FixedSpace.{fixedReply}
 use Rattle.transvection.specs.Greedy.{greedyReply}
 use Rattle.transvection_exact.specs.Minimal.{minimalReply}
 use Rattle.printout.specs.Printout.{printout}
@@ -17,6 +19,8 @@ pub data Call : Type 0 where
   minimal : ℕ → List ℕ → ℕ → ℕ → Call
   -- n, rows, how many output words are lent
   greedy : ℕ → List ℕ → ℕ → Call
+  -- n, rows, how many output words are lent
+  fixed : ℕ → List ℕ → ℕ → Call
   -- n, the bytes of a gate sequence, how many output rows are lent
   gates : ℕ → List ℕ → ℕ → Call
   -- the bytes of a job file
@@ -35,6 +39,7 @@ replied r = replies (r .figures .number) (r .figures .count) (r .figures .looks)
 unfoldable pub answer : Call → Answer
 answer (minimal n rows budget lent) = replied (minimalReply n rows budget (replicate lent 9))
 answer (greedy n rows lent) = replied (greedyReply n rows (replicate lent 9))
+answer (fixed n rows lent) = replied (fixedReply n rows (replicate lent 9))
 answer (gates n bytes lent) = replied (gatesReply n bytes (replicate lent 9))
 answer (job file) = shown (printout file)
 
@@ -80,4 +85,18 @@ table =
     ∷ (greedy 33 [] 3 gives replies 1 0 0 (9 ∷ 9 ∷ 9 ∷ []))
     -- CX 1 1, n = 2: 11
     ∷ (gates 2 (3 ∷ 1 ∷ 1 ∷ []) 4 gives replies 11 0 0 (9 ∷ 9 ∷ 9 ∷ 9 ∷ []))
+    -- the fixed space: n = 0: none; identity, n = 2: all; H: Y; CX 0 1: IX ZI; SWAP: XX ZZ, and the words behind them unchanged
+    ∷ (fixed 0 [] 0 gives replies 0 0 0 [])
+    ∷ (fixed 2 (1 ∷ 2 ∷ 4 ∷ 8 ∷ []) 4 gives replies 0 4 0 (1 ∷ 2 ∷ 4 ∷ 8 ∷ []))
+    ∷ (fixed 1 (played 1 (0 ∷ 0 ∷ 0 ∷ [])) 2 gives replies 0 1 0 (3 ∷ 9 ∷ []))
+    ∷ (fixed 2 (played 2 (3 ∷ 0 ∷ 1 ∷ [])) 4 gives replies 0 2 0 (2 ∷ 4 ∷ 9 ∷ 9 ∷ []))
+    ∷ (fixed 2 (played 2 (5 ∷ 0 ∷ 1 ∷ [])) 5 gives replies 0 2 0 (3 ∷ 12 ∷ 9 ∷ 9 ∷ 9 ∷ []))
+    -- rows 1 8 4 2, n = 2, where the source has another basis of the same space
+    ∷ (fixed 2 (1 ∷ 8 ∷ 4 ∷ 2 ∷ []) 4 gives replies 0 3 0 (1 ∷ 10 ∷ 4 ∷ 9 ∷ []))
+    -- X to Z and Z to Y, n = 1: none but zero
+    ∷ (fixed 1 (2 ∷ 3 ∷ []) 2 gives replies 0 0 0 (9 ∷ 9 ∷ []))
+    -- SWAP with 3 words: 5, though the basis has 2; both rows Z: 4; n = 33: 1
+    ∷ (fixed 2 (played 2 (5 ∷ 0 ∷ 1 ∷ [])) 3 gives replies 5 0 0 (9 ∷ 9 ∷ 9 ∷ []))
+    ∷ (fixed 1 (2 ∷ 2 ∷ []) 2 gives replies 4 0 0 (9 ∷ 9 ∷ []))
+    ∷ (fixed 33 [] 3 gives replies 1 0 0 (9 ∷ 9 ∷ 9 ∷ []))
     ∷ []

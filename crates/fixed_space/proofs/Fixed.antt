@@ -29,8 +29,8 @@ use Rattle.fixed_space.specs.FixedSpace.{kernel, reducedBasis, fixedSpac
 use Rattle.fixed_space.specs.Promises.{Fixed, Spanning}
 use Rattle.fixed_space.proofs.Kernels.{kernel-lt, kernel-length, kernel-indep, kernel-zero, kernel-whole}
 
--- the basis is that of the plain reduction
-pub basis-plain : (m : ℕ) (M : List ℕ) → reducedBasis m M ≡ reduced m M .up
+-- a basis is that of the plain reduction
+basis-plain : (m : ℕ) (M : List ℕ) → reducedBasis m M ≡ reduced m M .up
 unfolding reducedBasis
 basis-plain m M = basis-reduced m M
 

@@ -8,15 +8,15 @@ use Rattle.symplectic.specs.Turns.{identityPlus}
 use Rattle.symplectic.specs.Replies.{Reply, listed, unlessRefused, listQuestions}
 use Rattle.reduction.specs.Columns.{rowReduceWithTransform}
 
--- the kernel of a matrix of m columns, all u with uM = 0: the rows of the transform beside the rows that became zero
+-- a basis of all u with uM = 0, for a matrix of m columns: the rows of the transform beside the rows that became zero
 unfoldable pub kernel : ℕ → List ℕ → List ℕ
 kernel m M = map (λ a. a .1) (rowReduceWithTransform m M .down)
 
--- the reduced basis of the rows of a matrix of m columns
+-- the reduced basis of what the rows of a matrix of m columns span: the rows that did not
 unfoldable pub reducedBasis : ℕ → List ℕ → List ℕ
 reducedBasis m M = map (λ a. a .0) (rowReduceWithTransform m M .up)
 
--- vF = v just where v(I + F) = 0
+-- all v with vF = v, that is, v(I + F) = 0
 unfoldable pub fixedSpace : ℕ → List ℕ → List ℕ
 fixedSpace n F = reducedBasis (n + n) (kernel (n + n) (identityPlus n F))
 

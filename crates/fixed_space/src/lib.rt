@@ -13,7 +13,7 @@ ghost use Rattle.symplectic.specs.Answers.{figuresOf};
 ghost use Rattle.fixed_space.specs.FixedSpace.{kernel as kernelOf, reducedBasis, fixedSpace, fixedReply};
 ghost use Rattle.fixed_space.specs.Promises.{InPlace, Complete, Reduced, Counted};
 
-// The rows of the transform beside the rows that became zero.
+// A basis of all u with uM = 0: the rows of the transform beside the rows that became zero.
 fn kernel(m: usize, matrix: Block) -> Block
     requires { ⌜ length (rowsOf matrix) ≤ width ⌝ }
     ensures { λ r. ⌜ rowsOf r ≡ kernelOf m (rowsOf matrix) ⌝ }
@@ -22,6 +22,7 @@ fn kernel(m: usize, matrix: Block) -> Block
     blocks::rows_from(r.transform, r.rank)
 }
 
+// The reduced basis of what the rows span.
 fn reduced_basis(m: usize, matrix: Block) -> Block
     ensures { λ r. ⌜ rowsOf r ≡ reducedBasis m (rowsOf matrix) ⌝ }
 {
@@ -47,7 +48,7 @@ pub fn clifford_fixed_space(n: u64, rows: &[u64], out: &mut [u64]) -> Listing
     ensures reduced { λ r. ⌜ Reduced n (now (out .exit)) (figuresOf r) ⌝ }
     ensures dimension { λ r. ⌜ Counted n (now (rows .entry)) (figuresOf r) ⌝ }
 {
-    let asked = symplectic::listing_questions(n, rows);
+    let asked = symplectic::listing_of(symplectic::action_questions(n, rows));
     let Listing::Listed { count: _ } = asked else {
         return asked;
     };

@@ -23,12 +23,12 @@ use Rattle.symplectic.specs.inner.Vectors.{swapHalves}
 use Rattle.symplectic.proofs.Lists.{map-eq}
 use Rattle.symplectic.proofs.Pairings.{swap-sum, swap-swap, swap-over, swap-low, swap-high, pairing-swap}
 use Rattle.symplectic.proofs.Layers.{times-images, added, added-sum, added-lt, added-over, identityPlus-is, plus-times}
-use Rattle.reduction.specs.Columns.{rowReduceWithTransform, rank}
+use Rattle.reduction.specs.Columns.{rank}
 use Rattle.reduction.specs.Residue.{residue, reduction, basis, transform, core, form}
 use Rattle.reduction.specs.inner.Plain.{reduced}
 use Rattle.reduction.proofs.Echelon.{Rref}
-use Rattle.reduction.proofs.Reduced.{reduced-rref, reduced-indep, reduced-lt, reduced-out, reduced-unique}
-use Rattle.reduction.proofs.Transform.{basis-row-is, basis-transform-lt, basis-reduced, pivots-reduced, rank-plain, rank-width}
+use Rattle.reduction.proofs.Reduced.{reduced-indep, reduced-lt, reduced-out, reduced-unique}
+use Rattle.reduction.proofs.Transform.{basis-row-is, basis-transform-lt, basis-reduced, above-rref, rank-plain, rank-width}
 use Rattle.reduction.proofs.Forms.{form-transposed, transposed-length}
 
 -- ---- of any action
@@ -52,11 +52,8 @@ pub basis-indep : (n : ℕ) (F : List ℕ) → Indep 𝕎 (basis n F)
 basis-indep n F = subst (Indep 𝕎) (sym (basis-plain n F)) (reduced-indep (n + n) (residue n F))
 
 pub basis-rref : (n : ℕ) (F : List ℕ) → Rref bit (reduction n F .pivots) (basis n F)
-unfolding reduction
-basis-rref n F =
-    let m = n + n in
-    subst (λ B. Rref bit (rowReduceWithTransform m (residue n F) .pivots) B) (sym (basis-plain n F))
-    (subst (λ ps. Rref bit ps (reduced m (residue n F) .up)) (sym (pivots-reduced m (residue n F))) (reduced-rref m (residue n F)))
+unfolding basis reduction
+basis-rref n F = above-rref (n + n) (residue n F)
 
 -- pEq is the dot of what p takes of the basis and q of the transform
 pub core-form : (n : ℕ) (F : List ℕ) (p q : ℕ) → form (core n F) p q ≡ dot (times p (basis n F)) (times q (transform n F))
@@ -165,12 +162,12 @@ module _ (n : ℕ) (F : List ℕ) (size : length F ≡ n + n) where
         span-trans 𝕎 (residue n F) (basis n F) (added n F z)
         (subst (λ B. All (InSpan 𝕎 B) (residue n F)) (sym (basis-plain n F)) (reduced-out (n + n) (residue n F) residue-lt)) (residue-full z)
 
-    -- I + F has the rank of the residue
     pub plus-lt : All (λ v. v < 2 ^ (n + n)) (identityPlus n F)
     plus-lt =
         subst (All (λ v. v < 2 ^ (n + n))) (sym (identityPlus-is n F size))
         (All·to-map (added n F) (λ v. v < 2 ^ (n + n)) (units (n + n)) (All·any (λ u. added-lt n F bounded u) (units (n + n))))
 
+    -- I + F has the rank of the residue
     pub rank-plus : rank (n + n) (identityPlus n F) ≡ rank (n + n) (residue n F)
     rank-plus =
         rank-plain (n + n) (identityPlus n F) ∙ ap length (reduced-unique (n + n) (identityPlus n F) (residue n F) plus-lt residue-lt ins outs) ∙ sym (rank-plain (n + n) (residue n F))

@@ -87,12 +87,14 @@ module _ (m : ℕ) (M : List ℕ) where
   pub pivots-reduced : rowReduceWithTransform m M .pivots ≡ reduced m M .pivots
   pivots-reduced = ap (λ h. h .pivots) rows-reduced
 
-  -- the rows above are an echelon list
+  -- the rows above are an echelon list, alone and beside the transform
+  pub above-rref : Rref bit (rowReduceWithTransform m M .pivots) (map (λ a. a .0) (rowReduceWithTransform m M .up))
+  above-rref =
+      subst (λ l. Rref bit (rowReduceWithTransform m M .pivots) l) (sym basis-reduced)
+      (subst (λ ps. Rref bit ps (reduced m M .up)) (sym pivots-reduced) (reduced-rref m M))
+
   pub up-rref : Rref (λ c a. bit c (a .0)) (rowReduceWithTransform m M .pivots) (rowReduceWithTransform m M .up)
-  up-rref =
-      let h = rowReduceWithTransform m M in
-      rref-of-map (λ a. a .0) bit (h .pivots) (h .up)
-      (subst (λ l. Rref bit (h .pivots) l) (sym basis-reduced) (subst (λ ps. Rref bit ps (reduced m M .up)) (sym pivots-reduced) (reduced-rref m M)))
+  up-rref = rref-of-map (λ a. a .0) bit (rowReduceWithTransform m M .pivots) (rowReduceWithTransform m M .up) above-rref
 
   -- what a row takes of the matrix, beside it, is a sum of the rows
   pub beside-in : (u : ℕ) → u < 2 ^ length M → InSpan (Prod 𝕎 𝕎) (rows (rowReduceWithTransform m M)) (times u M, u)

@@ -223,11 +223,10 @@ pub fn action_questions(n: u64, words: &[u64]) -> Question
     Question::Passed
 }
 
-// Questions 1 to 4, for a call that answers a listing: the refusal, or that nothing is listed so far.
-pub fn listing_questions(n: u64, words: &[u64]) -> Listing
-    ensures { λ r. ⌜ figuresOf r ≡ asked (actionQuestions n (rowsOfWords n (now (words .entry)))) ⌝ }
+// The answer of a call that has asked, and has listed nothing so far.
+pub fn listing_of(question: Question) -> Listing
+    ensures { λ r. ⌜ figuresOf r ≡ asked (numberOf question) ⌝ }
 {
-    let question = action_questions(n, words);
     match question {
         Question::TooManyQubits => Listing::TooManyQubits,
         Question::WrongRowCount => Listing::WrongRowCount,

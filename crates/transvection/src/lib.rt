@@ -186,7 +186,7 @@ pub fn clifford_to_transvections(n: u64, rows: &[u64], out: &mut [u64]) -> Listi
     ensures replays { λ r. ⌜ Replays n (now (rows .entry)) (now (out .exit)) (figuresOf r) ⌝ }
     ensures few { λ r. ⌜ figuresOf r .count ≤ 4 * n ⌝ }
 {
-    let asked = symplectic::listing_questions(n, rows);
+    let asked = symplectic::listing_of(symplectic::action_questions(n, rows));
     let Listing::Listed { count: _ } = asked else {
         return asked;
     };

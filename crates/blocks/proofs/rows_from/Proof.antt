@@ -67,7 +67,6 @@ loop-again c =
     let at = c .before .before .loop in
     let s = c .before .before .before .before .before .before .args in
     let first = c .before .before .before .before .lesser in
-    let total = c .before .before .before .before .before .length-of in
     let b = s .t1 in
     let g : first .result ≡ s .k = omega (arith, first .ensures) in
     let inside : first .result + at .i < length (rowsOf b) = omega (arith, at .inv .2) in (

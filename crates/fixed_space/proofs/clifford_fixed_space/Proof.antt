@@ -9,7 +9,8 @@ use lib.ListN.{length}
 use Rattle.blocks.specs.Blocks.{rowsOf}
 use Rattle.blocks.specs.Words.{rowsOfWords, laid}
 use Rattle.symplectic.specs.Actions.{maxQubits}
-use Rattle.symplectic.specs.Replies.{actionQuestions}
+use Rattle.symplectic.specs.Answers.{figuresOf}
+use Rattle.symplectic.specs.Replies.{actionQuestions, asked}
 use Rattle.symplectic.proofs.Arrays.{loaded}
 use Rattle.symplectic.proofs.Questions.{passed-size, passed-count}
 use Rattle.symplectic.proofs.Listings.{listing-passed, listing-early, listing-short, listing-answer}
@@ -19,44 +20,50 @@ use borrow.Author.Needs.{needs}
 use Rattle.fixed_space.proofs.clifford_fixed_space.Statement.{statement}
 use Rattle.fixed_space.proofs.clifford_fixed_space.Tie as tie
 
--- every question of the action is passed
-passed : (c : tie.After-enum-told) → let s = c .before .before .before .before .before .args in actionQuestions (s .n) (rowsOfWords (s .n) (s .rows .now)) ≡ 0
-passed c =
-    let s = c .before .before .before .before .before .args in
-    let r = c .before .before .listing-questions in
-    listing-passed (r .result) (actionQuestions (s .n) (rowsOfWords (s .n) (s .rows .now))) (r .ensures) (c .before .match .keys1)
+-- what the call has asked
+asked-is : (c : tie.After-listing-of) → let s = c .before .before .before .before .args in figuresOf (c .listing-of .result) ≡ asked (actionQuestions (s .n) (rowsOfWords (s .n) (s .rows .now)))
+asked-is c = c .listing-of .ensures ∙ ap asked (c .before .action-questions .ensures)
 
-few : (c : tie.After-enum-told) → c .before .before .before .before .before .args .n ≤ maxQubits
-few c = let s = c .before .before .before .before .before .args in passed-size (s .n) (rowsOfWords (s .n) (s .rows .now)) (passed c)
+-- every question of the action is passed
+passed : (c : tie.After-enum-told) → let s = c .before .before .before .before .before .before .args in actionQuestions (s .n) (rowsOfWords (s .n) (s .rows .now)) ≡ 0
+passed c =
+    let s = c .before .before .before .before .before .before .args in
+    let r = c .before .before in
+    listing-passed (r .listing-of .result) (actionQuestions (s .n) (rowsOfWords (s .n) (s .rows .now))) (asked-is r) (c .before .match .keys1)
+
+few : (c : tie.After-enum-told) → c .before .before .before .before .before .before .args .n ≤ maxQubits
+few c = let s = c .before .before .before .before .before .before .args in passed-size (s .n) (rowsOfWords (s .n) (s .rows .now)) (passed c)
 
 -- the basis of the code is that of the action
-basis-is : (c : tie.After-fixed-space) → let s = c .before .before .before .before .before .before .before .before .args in rowsOf (c .fixed-space .result) ≡ fixedSpace (s .n) (rowsOfWords (s .n) (s .rows .now))
+basis-is : (c : tie.After-fixed-space) → let s = c .before .before .before .before .before .before .before .before .before .args in rowsOf (c .fixed-space .result) ≡ fixedSpace (s .n) (rowsOfWords (s .n) (s .rows .now))
 basis-is c =
     let t = c .before .before .before in
-    let s = t .before .before .before .before .before .args in
+    let s = t .before .before .before .before .before .before .args in
     let F = rowsOfWords (s .n) (s .rows .now) in
     let e = c .before .from-words .ensures in
     let same = loaded (c .before .from-words .result) (s .n) F (few t) (passed-count (s .n) F (passed t)) (e .0) (e .1) in
     c .fixed-space .ensures ∙ ap₂ (λ (m : ℕ) (G : List ℕ). fixedSpace m G) (same .0) (same .1)
 
-listing-questions-requires : tie.Need-listing-questions-requires
-listing-questions-requires c κs = search needs
+action-questions-requires : tie.Need-action-questions-requires
+action-questions-requires c κs = search needs
+
+listing-of-requires : tie.Need-listing-of-requires
+listing-of-requires c κs = search needs
 
 enum-told : tie.Need-enum-told
 enum-told c = search needs
 
 returns : tie.Need-returns
 returns c =
-    let s = c .before .before .before .before .args in
-    let r = c .before .listing-questions in
-    listing-early (fixed-call (s .n) (s .rows .now) (s .out .now)) (r .result) (r .ensures) (c .match .keys2)
+    let s = c .before .before .before .before .before .args in
+    listing-early (fixed-call (s .n) (s .rows .now) (s .out .now)) (c .before .listing-of .result) (asked-is (c .before)) (c .match .keys2)
 
 add-wanted : tie.Need-add-wanted
 add-wanted c = omega (arith, few c)
 
 returns-2 : tie.Need-returns-2
 returns-2 c =
-    let s = c .before .before .before .before .before .before .args in
+    let s = c .before .before .before .before .before .before .before .args in
     listing-short (fixed-call (s .n) (s .rows .now) (s .out .now)) (passed (c .before)) (omega arith)
 
 from-words-requires : tie.Need-from-words-requires
@@ -77,7 +84,7 @@ same-length c = search needs
 returns-3 : tie.Need-returns-3
 returns-3 c =
     let t = c .before .before .before .before .before in
-    let s = t .before .before .before .before .before .before .before .before .args in
+    let s = t .before .before .before .before .before .before .before .before .before .args in
     let stored = c .before .before .before .store in
     listing-answer (fixed-call (s .n) (s .rows .now) (s .out .now)) (passed (t .before .before .before)) (omega arith) (c .length-of .result) (stored .last .1 .1 .0)
     (c .length-of .ensures ∙ ap length (basis-is t)) (stored .ensures ∙ ap (λ (l : List ℕ). laid (s .n) l (s .out .now)) (basis-is t))
@@ -86,7 +93,8 @@ pub clifford-fixed-space-spec : {M : Type 1} → statement M
 clifford-fixed-space-spec =
     tie.close
     (tie.spec
-    listing-questions-requires
+    action-questions-requires
+    listing-of-requires
     enum-told
     returns
     add-wanted

@@ -9,7 +9,8 @@ use lib.ListN.{length, length-reverse}
 use Rattle.blocks.specs.Words.{rowsOfWords, laid}
 use Rattle.blocks.proofs.Values.{unmapped}
 use Rattle.symplectic.specs.Actions.{maxQubits}
-use Rattle.symplectic.specs.Replies.{actionQuestions}
+use Rattle.symplectic.specs.Answers.{figuresOf}
+use Rattle.symplectic.specs.Replies.{actionQuestions, asked}
 use Rattle.symplectic.proofs.Arrays.{loaded}
 use Rattle.symplectic.proofs.Questions.{passed-size, passed-count}
 use Rattle.symplectic.proofs.Listings.{listing-passed, listing-early, listing-short, listing-answer}
@@ -22,23 +23,27 @@ use borrow.Author.Needs.{needs}
 use Rattle.transvection.proofs.clifford_to_transvections.Statement.{statement}
 use Rattle.transvection.proofs.clifford_to_transvections.Tie as tie
 
--- every question of the action is passed
-passed : (c : tie.After-enum-told) → let s = c .before .before .before .before .before .args in actionQuestions (s .n) (rowsOfWords (s .n) (s .rows .now)) ≡ 0
-passed c =
-    let s = c .before .before .before .before .before .args in
-    let r = c .before .before .listing-questions in
-    listing-passed (r .result) (actionQuestions (s .n) (rowsOfWords (s .n) (s .rows .now))) (r .ensures) (c .before .match .keys1)
+-- what the call has asked
+asked-is : (c : tie.After-listing-of) → let s = c .before .before .before .before .args in figuresOf (c .listing-of .result) ≡ asked (actionQuestions (s .n) (rowsOfWords (s .n) (s .rows .now)))
+asked-is c = c .listing-of .ensures ∙ ap asked (c .before .action-questions .ensures)
 
-few : (c : tie.After-enum-told) → c .before .before .before .before .before .args .n ≤ maxQubits
-few c = let s = c .before .before .before .before .before .args in passed-size (s .n) (rowsOfWords (s .n) (s .rows .now)) (passed c)
+-- every question of the action is passed
+passed : (c : tie.After-enum-told) → let s = c .before .before .before .before .before .before .args in actionQuestions (s .n) (rowsOfWords (s .n) (s .rows .now)) ≡ 0
+passed c =
+    let s = c .before .before .before .before .before .before .args in
+    let r = c .before .before in
+    listing-passed (r .listing-of .result) (actionQuestions (s .n) (rowsOfWords (s .n) (s .rows .now))) (asked-is r) (c .before .match .keys1)
+
+few : (c : tie.After-enum-told) → c .before .before .before .before .before .before .args .n ≤ maxQubits
+few c = let s = c .before .before .before .before .before .before .args in passed-size (s .n) (rowsOfWords (s .n) (s .rows .now)) (passed c)
 
 -- the record of the code is that of the greedy list
 kept-is : (c : tie.After-record-turns)
-    → (turns (c .record-turns .result) ≡ recorded (c .before .before .before .before .before .before .before .before .args .n) (4 * c .before .before .before .before .before .before .before .before .args .n + 2) (rowsOfWords (c .before .before .before .before .before .before .before .before .args .n) (c .before .before .before .before .before .before .before .before .args .rows .now)))
-    × (c .record-turns .result .count ≤ 4 * c .before .before .before .before .before .before .before .before .args .n + 2)
+    → (turns (c .record-turns .result) ≡ recorded (c .before .before .before .before .before .before .before .before .before .args .n) (4 * c .before .before .before .before .before .before .before .before .before .args .n + 2) (rowsOfWords (c .before .before .before .before .before .before .before .before .before .args .n) (c .before .before .before .before .before .before .before .before .before .args .rows .now)))
+    × (c .record-turns .result .count ≤ 4 * c .before .before .before .before .before .before .before .before .before .args .n + 2)
 kept-is c =
     let t = c .before .before .before in
-    let s = t .before .before .before .before .before .args in
+    let s = t .before .before .before .before .before .before .args in
     let F = rowsOfWords (s .n) (s .rows .now) in
     let e = c .before .from-words .ensures in
     let same = loaded (c .before .from-words .result) (s .n) F (few t) (passed-count (s .n) F (passed t)) (e .0) (e .1) in
@@ -46,17 +51,19 @@ kept-is c =
     let k = c .record-turns .ensures .1 in
     (c .record-turns .ensures .0 ∙ ap₂ (λ (m : ℕ) (G : List ℕ). recorded m (4 * m + 2) G) (same .0) (same .1), omega arith)
 
-listing-questions-requires : tie.Need-listing-questions-requires
-listing-questions-requires c κs = search needs
+action-questions-requires : tie.Need-action-questions-requires
+action-questions-requires c κs = search needs
+
+listing-of-requires : tie.Need-listing-of-requires
+listing-of-requires c κs = search needs
 
 enum-told : tie.Need-enum-told
 enum-told c = search needs
 
 returns : tie.Need-returns
 returns c =
-    let s = c .before .before .before .before .args in
-    let r = c .before .listing-questions in
-    listing-early (greedy-call (s .n) (s .rows .now) (s .out .now)) (r .result) (r .ensures) (c .match .keys2)
+    let s = c .before .before .before .before .before .args in
+    listing-early (greedy-call (s .n) (s .rows .now) (s .out .now)) (c .before .listing-of .result) (asked-is (c .before)) (c .match .keys2)
 
 mul-wanted : tie.Need-mul-wanted
 mul-wanted c = omega (arith, few c)
@@ -66,7 +73,7 @@ add-wanted c = omega (arith, few c)
 
 returns-2 : tie.Need-returns-2
 returns-2 c =
-    let s = c .before .before .before .before .before .before .args in
+    let s = c .before .before .before .before .before .before .before .args in
     listing-short (greedy-call (s .n) (s .rows .now) (s .out .now)) (passed (c .before)) (omega arith)
 
 from-words-requires : tie.Need-from-words-requires
@@ -87,7 +94,7 @@ same-length c = search needs
 returns-3 : tie.Need-returns-3
 unfolding greedyList
 returns-3 c =
-    let s = c .before .before .before .before .before .before .before .before .before .before .before .before .args in
+    let s = c .before .before .before .before .before .before .before .before .before .before .before .before .before .args in
     let t = c .before .before .before .before in
     let r = t .record-turns .result in
     let k = kept-is t in
@@ -102,7 +109,8 @@ pub clifford-to-transvections-spec : {M : Type 1} → statement M
 clifford-to-transvections-spec =
     tie.close
     (tie.spec
-    listing-questions-requires
+    action-questions-requires
+    listing-of-requires
     enum-told
     returns
     mul-wanted
