@@ -35,8 +35,8 @@ unfolding reducedBasis
 basis-plain m M = basis-reduced m M
 
 module _ (n : ℕ) (F : List ℕ) (size : length F ≡ n + n) (bounded : All (λ f. f < 2 ^ (n + n)) F) where
-  abbrev I+F : List ℕ
-  I+F = identityPlus n F
+  abbrev plus : List ℕ
+  plus = identityPlus n F
 
   abbrev K : List ℕ
   K = kernel (n + n) (identityPlus n F)
@@ -46,7 +46,7 @@ module _ (n : ℕ) (F : List ℕ) (size : length F ≡ n + n) (bounded : All (λ
   space-is = basis-plain (n + n) K
 
   K-lt : All (λ v. v < 2 ^ (n + n)) K
-  K-lt = subst (λ k. All (λ v. v < 2 ^ k) K) (plus-length n F size) (kernel-lt (n + n) I+F)
+  K-lt = subst (λ k. All (λ v. v < 2 ^ k) K) (plus-length n F size) (kernel-lt (n + n) plus)
 
   -- vF = v just where I + F makes v zero
   fixed-of-zero : (v : ℕ) → v < 2 ^ (n + n) → times v (identityPlus n F) ≡ 0 → times v F ≡ v
@@ -59,14 +59,14 @@ module _ (n : ℕ) (F : List ℕ) (size : length F ≡ n + n) (bounded : All (λ
   fixed-of-span : (v : ℕ) → InSpan 𝕎 K v → Fixed n F v
   fixed-of-span v h =
       let l = span-lt (n + n) K K-lt v h in
-      (fixed-of-zero v l (span-kernel 𝕎 𝕎 (λ u. times u I+F) (times-sum I+F) K (kernel-zero (n + n) I+F (plus-lt n F size bounded)) v h), l)
+      (fixed-of-zero v l (span-kernel 𝕎 𝕎 (λ u. times u plus) (times-sum plus) K (kernel-zero (n + n) plus (plus-lt n F size bounded)) v h), l)
 
   pub fixed-rows : All (Fixed n F) (fixedSpace n F)
   fixed-rows = subst (All (Fixed n F)) (sym space-is) (All·map (λ v h. fixed-of-span v h) (reduced (n + n) K .up) (basis-in (n + n) K))
 
   pub fixed-spanning : Spanning n F (fixedSpace n F)
   fixed-spanning v f =
-      let k = kernel-whole (n + n) I+F (plus-lt n F size bounded) v (subst (λ m. v < 2 ^ m) (sym (plus-length n F size)) (f .1)) (zero-of-fixed v f) in
+      let k = kernel-whole (n + n) plus (plus-lt n F size bounded) v (subst (λ m. v < 2 ^ m) (sym (plus-length n F size)) (f .1)) (zero-of-fixed v f) in
       let d = drawn (fixedSpace n F) v (subst (λ B. InSpan 𝕎 B v) (sym space-is) (span-trans 𝕎 K (reduced (n + n) K .up) v (reduced-out (n + n) K K-lt) k)) in
       (d .0, d .2)
 
@@ -75,7 +75,7 @@ module _ (n : ℕ) (F : List ℕ) (size : length F ≡ n + n) (bounded : All (λ
 
   pub fixed-count : length (fixedSpace n F) + rank (n + n) (identityPlus n F) ≡ n + n
   fixed-count =
-      omega (arith, ap length space-is, indep-length (n + n) K K-lt (kernel-indep (n + n) I+F), kernel-length (n + n) I+F, plus-length n F size)
+      omega (arith, ap length space-is, indep-length (n + n) K K-lt (kernel-indep (n + n) plus), kernel-length (n + n) plus, plus-length n F size)
 
   pub fixed-lt : All (λ v. v < 2 ^ (n + n)) (fixedSpace n F)
   fixed-lt = All·map (λ v f. f .1) (fixedSpace n F) fixed-rows

@@ -11,7 +11,7 @@ use Rattle.symplectic.specs.declared.Figures.{Figures}
 use Rattle.symplectic.specs.declared.Listing.{Listing}
 use Rattle.symplectic.specs.declared.Listing.the-variants.{Listed, TooManyQubits, WrongRowCount, RowTooWide, NotSymplectic, OutputTooShort}
 use Rattle.symplectic.specs.Answers.{figuresOf}
-use Rattle.symplectic.specs.Replies.{Reply, asked, listed, unlessRefused, actionQuestions, listQuestions}
+use Rattle.symplectic.specs.Replies.{Reply, nothingListed, listed, unlessRefused, actionQuestions, listQuestions}
 use Rattle.symplectic.proofs.Listing.{the-type}
 use Rattle.symplectic.proofs.Questions.{list-passed, list-short, list-refused}
 use Rattle.symplectic.proofs.Answered.{Meets, Holds, meets-refused, meets-answer}
@@ -32,15 +32,15 @@ number-is RowTooWide = refl
 number-is NotSymplectic = refl
 number-is OutputTooShort = refl
 
-asked-number : (r : Listing) (q : ℕ) → figuresOf r ≡ asked q → q ≡ tagOf the-type r
-asked-number r q e = sym (ap (λ (t : Figures). t .number) e) ∙ number-is r
+listing-number : (r : Listing) (k : ℕ) → figuresOf r ≡ nothingListed k → k ≡ tagOf the-type r
+listing-number r k e = sym (ap (λ (t : Figures). t .number) e) ∙ number-is r
 
 -- nothing is listed so far: every question was passed
-pub listing-passed : (r : Listing) (q : ℕ) → figuresOf r ≡ asked q → Lists r → q ≡ 0
-listing-passed r q e l = asked-number r q e ∙ l
+pub listing-passed : (r : Listing) (k q : ℕ) → figuresOf r ≡ nothingListed k → k ≡ q → Lists r → q ≡ 0
+listing-passed r k q e a l = sym a ∙ listing-number r k e ∙ l
 
-refuses : (r : Listing) (q : ℕ) → figuresOf r ≡ asked q → Unlisted r → (k : ℕ) × (q ≡ suc k)
-refuses r q e u = go q (asked-number r q e)
+refuses : (r : Listing) (q : ℕ) → figuresOf r ≡ nothingListed q → Unlisted r → (k : ℕ) × (q ≡ suc k)
+refuses r q e u = go q (listing-number r q e)
   where
     go : (p : ℕ) → p ≡ tagOf the-type r → (k : ℕ) × (p ≡ suc k)
     go zero z = absurd (miss (1 ∷ 2 ∷ 3 ∷ 4 ∷ 5 ∷ []) 0 tt (subst (OneOf (1 ∷ 2 ∷ 3 ∷ 4 ∷ 5 ∷ [])) (sym z) u))
@@ -61,14 +61,14 @@ module _ {P : List ℕ → Figures → Type 0} {n : ℕ} {rows : List ℕ} {want
   holds : Holds P (unlessRefused questions out answer)
   holds = subst (Holds P) (call .is) (call .holds)
 
-  refused-at : (k : ℕ) (t : Figures) → questions ≡ suc k → t ≡ asked (suc k) → Meets P reply out t
+  refused-at : (k : ℕ) (t : Figures) → questions ≡ suc k → t ≡ nothingListed (suc k) → Meets P reply out t
   refused-at k t e s = subst (λ (x : Reply). Meets P x out t) (sym (call .is)) (meets-refused P questions out answer holds t k e s)
 
   -- by the first question of the action that is answered no
-  pub listing-early : (r : Listing) → figuresOf r ≡ asked (actionQuestions n (rowsOfWords n rows)) → Unlisted r → Meets P reply out (figuresOf r)
-  listing-early r e u =
-      let k = refuses r (actionQuestions n (rowsOfWords n rows)) e u in
-      refused-at (k .0) (figuresOf r) (list-refused n (rowsOfWords n rows) wanted (length out) (k .0) (k .1)) (e ∙ ap asked (k .1))
+  pub listing-early : (r : Listing) (q : ℕ) → figuresOf r ≡ nothingListed q → q ≡ actionQuestions n (rowsOfWords n rows) → Unlisted r → Meets P reply out (figuresOf r)
+  listing-early r q e a u =
+      let k = refuses r q e u in
+      refused-at (k .0) (figuresOf r) (list-refused n (rowsOfWords n rows) wanted (length out) (k .0) (sym a ∙ k .1)) (e ∙ ap nothingListed (k .1))
 
   module _ (passed : actionQuestions n (rowsOfWords n rows) ≡ 0) where
     -- by the fifth

@@ -11,9 +11,9 @@ use Rattle.symplectic.specs.Actions.{maxQubits}
 use Rattle.symplectic.specs.Turns.{allOf, symplectic, product}
 use Rattle.symplectic.specs.declared.Figures.{Figures}
 
--- the figures of a call once it has asked: the number of the question that was answered no, or 0, and nothing listed. Open to users
-abbrev pub asked : ℕ → Figures
-asked number = record { number = number; count = 0; looks = 0 }
+-- the figures of a call that has listed nothing: the number of the question that was answered no, or 0. Open to users
+abbrev pub nothingListed : ℕ → Figures
+nothingListed number = record { number = number; count = 0; looks = 0 }
 
 -- a call's whole answer. This record and the two below are plain data, open to users
 pub record Reply : Type 0 where

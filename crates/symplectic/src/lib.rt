@@ -12,7 +12,7 @@ ghost use Rattle.blocks.specs.Words.{rowsOfWords, laid};
 ghost use Rattle.symplectic.specs.Turns.{followed as followedOf, product as productOf, symplectic};
 ghost use Rattle.symplectic.specs.inner.Vectors.{swapHalves, pairsAsBasis};
 ghost use Rattle.symplectic.specs.Actions.{maxQubits, capped, qubits, matrix, padded};
-ghost use Rattle.symplectic.specs.Replies.{fitAll, actionQuestions, asked};
+ghost use Rattle.symplectic.specs.Replies.{fitAll, actionQuestions, nothingListed};
 ghost use Rattle.symplectic.specs.Answers.{numberOf, figuresOf};
 
 // The most qubits of an action, and the most rows.
@@ -225,7 +225,7 @@ pub fn action_questions(n: u64, words: &[u64]) -> Question
 
 // The answer of a call that has asked, and has listed nothing so far.
 pub fn listing_of(question: Question) -> Listing
-    ensures { λ r. ⌜ figuresOf r ≡ asked (numberOf question) ⌝ }
+    ensures { λ r. ⌜ figuresOf r ≡ nothingListed (numberOf question) ⌝ }
 {
     match question {
         Question::TooManyQubits => Listing::TooManyQubits,
