@@ -12,7 +12,7 @@ use Rattle.reduction.specs.Columns.{rowReduceWithTransform}
 unfoldable pub kernel : ℕ → List ℕ → List ℕ
 kernel m M = map (λ a. a .1) (rowReduceWithTransform m M .down)
 
--- the reduced basis of what the rows of a matrix of m columns span: the rows that did not
+-- the reduced basis of what the rows of a matrix of m columns span: the rows that did not become zero
 unfoldable pub reducedBasis : ℕ → List ℕ → List ℕ
 reducedBasis m M = map (λ a. a .0) (rowReduceWithTransform m M .up)
 
