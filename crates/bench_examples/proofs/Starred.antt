@@ -1,4 +1,4 @@
--- The one computed theorem: every starred example of document 01, and those of the fixed space, as the definitions answer them.
+-- The one computed theorem: every starred example of document 01, and those of the fixed space and of the shorter list, as the definitions answer them.
 -- Assumes nothing.
 use mathlib.Core.Path.{_≡_, refl}
 use mathlib.Core.List.{map, zip, zipWith, flatten}
@@ -8,9 +8,11 @@ use Rattle.blocks.specs.Matrices.{times, units, dots}
 use Rattle.blocks.specs.Words.{rowsOfWords, wordOf, wordsOfRows, laid}
 use Rattle.symplectic.specs.Picks.{firstOne, unevenWith, firstUneven, pick}
 use Rattle.symplectic.specs.Replies.{fitAll, sizeQuestion, countQuestion, actionQuestions, listQuestions}
+use Rattle.symplectic.specs.Matches.{matches}
 use Rattle.symplectic.specs.Turns.{xBits, zBits, pairing, turn, followed, product, pairAlike, symplectic, identityPlus}
 use Rattle.reduction.specs.Columns.{columns, rowReduceWithTransform, rank}
 use Rattle.reduction.specs.Residue.{residue, reduction, basis, transform, timesTransposed, core, form}
+use Rattle.shorter.specs.Shorter.{shorterOf, shorterReply, partOf}
 use Rattle.fixed_space.specs.FixedSpace.{kernel, reducedBasis, fixedSpace, fixedReply}
 use Rattle.triangular.specs.Search.{draws, search, budgeted}
 use Rattle.triangular.specs.Spaces.{complement, symmetricWith, isAlternating}
@@ -25,5 +27,5 @@ use Rattle.lines.specs.Lines.{decimalIn, decimal, lettersFrom, letters, touched
 use Rattle.printout.specs.Printout.{wordsOfBytes, entryAction, entryLine, entryLines, fileLines, printout}
 
 pub starred : map (λ (e : Example). answer (e .call)) table ≡ map (λ (e : Example). e .expected) table
-unfolding table answer zip zipWith flatten odd bit _⊕_ weight dot times units dots rowsOfWords wordOf wordsOfRows laid firstOne unevenWith firstUneven pick fitAll sizeQuestion countQuestion actionQuestions listQuestions xBits zBits pairing turn followed product pairAlike symplectic identityPlus columns rowReduceWithTransform rank residue reduction basis transform timesTransposed core form kernel reducedBasis fixedSpace fixedReply draws search budgeted complement symmetricWith isAlternating unitLower validate verifiesBordered checkedList borderedList splitAt withPartner fromFirst symplecticSimplex peeled borderedFamily besideBasis firstNonzero nextTransvection recorded greedyList greedyReply coreSearch minimalReply readsTwo gateQuestions sequenceQuestions sequenceTurns gatesReply sheet gate turnVector littleEndian part number qubitCount entryCount entry partSize entryPasses entriesPass fileQuestions decimalIn decimal lettersFrom letters touchedFrom touched load spelled line fileLine wordsOfBytes entryAction entryLine entryLines fileLines printout
+unfolding table answer zip zipWith flatten odd bit _⊕_ weight dot times units dots rowsOfWords wordOf wordsOfRows laid firstOne unevenWith firstUneven pick fitAll sizeQuestion countQuestion actionQuestions listQuestions xBits zBits pairing turn followed product pairAlike symplectic identityPlus columns rowReduceWithTransform rank residue reduction basis transform timesTransposed core form kernel reducedBasis fixedSpace fixedReply shorterOf shorterReply partOf draws search budgeted complement symmetricWith isAlternating unitLower validate matches verifiesBordered checkedList borderedList splitAt withPartner fromFirst symplecticSimplex peeled borderedFamily besideBasis firstNonzero nextTransvection recorded greedyList greedyReply coreSearch minimalReply readsTwo gateQuestions sequenceQuestions sequenceTurns gatesReply sheet gate turnVector littleEndian part number qubitCount entryCount entry partSize entryPasses entriesPass fileQuestions decimalIn decimal lettersFrom letters touchedFrom touched load spelled line fileLine wordsOfBytes entryAction entryLine entryLines fileLines printout
 starred = refl

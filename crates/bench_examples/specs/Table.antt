@@ -1,4 +1,5 @@
--- The starred bench examples of document 01, and examples of the fixed space (document 02, item 3), as one table of calls and expected answers.
+-- The starred bench examples of document 01, and examples of the fixed space and of the shorter list (document 02, items 3 and 4), as one
+-- table of calls and expected answers.
 -- Expected values are literals.
 -- In each call the lent output words hold 9 at entry, so that the words left unchanged can be seen. The actions of H and CX are made
 -- from the gate sheet.
@@ -8,6 +9,8 @@ use Prim.Native.Nat.{ℕ, _+_}
 use lib.ListN.{replicate}
 use Rattle.symplectic.specs.Replies.{Reply}
 use Rattle.gates.specs.Sequences.{gatesReply}
+use Rattle.shorter.specs.declared.Chosen.{Chosen}
+use Rattle.shorter.specs.Shorter.{shorterReply, partOf}
 use Rattle.fixed_space.specs.FixedSpace.{fixedReply}
 use Rattle.transvection.specs.Greedy.{greedyReply}
 use Rattle.transvection_exact.specs.Minimal.{minimalReply}
@@ -21,6 +24,8 @@ pub data Call : Type 0 where
   greedy : ℕ → List ℕ → ℕ → Call
   -- n, rows, how many output words are lent
   fixed : ℕ → List ℕ → ℕ → Call
+  -- n, rows, the first list, the second list
+  shorter : ℕ → List ℕ → List ℕ → List ℕ → Call
   -- n, the bytes of a gate sequence, how many output rows are lent
   gates : ℕ → List ℕ → ℕ → Call
   -- the bytes of a job file
@@ -30,16 +35,22 @@ pub data Call : Type 0 where
 pub data Answer : Type 0 where
   -- number, count, looks, and the output words as the call leaves them
   replies : ℕ → ℕ → ℕ → List ℕ → Answer
+  -- number, which list, and the part that comes back
+  picks : ℕ → ℕ → List ℕ → Answer
   -- the bytes printed
   shown : List ℕ → Answer
 
 abbrev pub replied : Reply → Answer
 replied r = replies (r .figures .number) (r .figures .count) (r .figures .looks) (r .words)
 
+abbrev pub picked : List ℕ → List ℕ → Chosen → Answer
+picked first second c = picks (c .number) (c .list) (partOf (c .list) first second)
+
 unfoldable pub answer : Call → Answer
 answer (minimal n rows budget lent) = replied (minimalReply n rows budget (replicate lent 9))
 answer (greedy n rows lent) = replied (greedyReply n rows (replicate lent 9))
 answer (fixed n rows lent) = replied (fixedReply n rows (replicate lent 9))
+answer (shorter n rows first second) = picked first second (shorterReply n rows first second)
 answer (gates n bytes lent) = replied (gatesReply n bytes (replicate lent 9))
 answer (job file) = shown (printout file)
 
@@ -99,4 +110,22 @@ table =
     ∷ (fixed 2 (played 2 (5 ∷ 0 ∷ 1 ∷ [])) 3 gives replies 5 0 0 (9 ∷ 9 ∷ 9 ∷ []))
     ∷ (fixed 1 (2 ∷ 2 ∷ []) 2 gives replies 4 0 0 (9 ∷ 9 ∷ []))
     ∷ (fixed 33 [] 3 gives replies 1 0 0 (9 ∷ 9 ∷ 9 ∷ []))
+    -- the shorter list: n = 0, both empty: the first
+    ∷ (shorter 0 [] [] [] gives picks 0 1 [])
+    -- SWAP by ZZ YY XX and by XX YY ZZ: the first at equal length
+    ∷ (shorter 2 (played 2 (5 ∷ 0 ∷ 1 ∷ [])) (12 ∷ 15 ∷ 3 ∷ []) (3 ∷ 15 ∷ 12 ∷ []) gives picks 0 1 (12 ∷ 15 ∷ 3 ∷ []))
+    -- a zero vector counts; so does one in a list that does not match
+    ∷ (shorter 2 (played 2 (5 ∷ 0 ∷ 1 ∷ [])) (12 ∷ 0 ∷ 15 ∷ 3 ∷ []) (3 ∷ 15 ∷ 12 ∷ []) gives picks 0 2 (3 ∷ 15 ∷ 12 ∷ []))
+    ∷ (shorter 2 (played 2 (5 ∷ 0 ∷ 1 ∷ [])) (12 ∷ 0 ∷ 15 ∷ 3 ∷ []) (3 ∷ 0 ∷ 12 ∷ []) gives picks 0 1 (12 ∷ 0 ∷ 15 ∷ 3 ∷ []))
+    -- ZZ with a bit from 2n up is not ZZ, and a turn of such a bit alone, which would change nothing, is no turn
+    ∷ (shorter 2 (played 2 (5 ∷ 0 ∷ 1 ∷ [])) (28 ∷ 15 ∷ 3 ∷ []) (12 ∷ 0 ∷ 15 ∷ 3 ∷ []) gives picks 0 2 (12 ∷ 0 ∷ 15 ∷ 3 ∷ []))
+    ∷ (shorter 2 (1 ∷ 2 ∷ 4 ∷ 8 ∷ []) (16 ∷ []) (0 ∷ 0 ∷ []) gives picks 0 2 (0 ∷ 0 ∷ []))
+    -- the identity by the empty list
+    ∷ (shorter 2 (1 ∷ 2 ∷ 4 ∷ 8 ∷ []) (0 ∷ []) [] gives picks 0 2 [])
+    -- neither: 14; then both rows Z: 4; a row with a bit from 2n up: 3; a row too few: 2; n = 33: 1
+    ∷ (shorter 2 (played 2 (5 ∷ 0 ∷ 1 ∷ [])) (12 ∷ 15 ∷ []) [] gives picks 14 0 [])
+    ∷ (shorter 1 (2 ∷ 2 ∷ []) (3 ∷ []) [] gives picks 4 0 [])
+    ∷ (shorter 1 (1 ∷ 4 ∷ []) (3 ∷ []) [] gives picks 3 0 [])
+    ∷ (shorter 1 (1 ∷ []) (3 ∷ []) [] gives picks 2 0 [])
+    ∷ (shorter 33 [] (3 ∷ []) [] gives picks 1 0 [])
     ∷ []

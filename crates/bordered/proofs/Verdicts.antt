@@ -9,11 +9,13 @@ use lib.ListN.{length}
 use Rattle.blocks.specs.Blocks.{rowsOf}
 use Rattle.symplectic.specs.Turns.{allOf, product}
 use Rattle.symplectic.specs.Replies.{fitAll}
+use Rattle.symplectic.specs.Matches.{sameRows}
+use Rattle.symplectic.proofs.Matches.{matches-is}
 use Rattle.reduction.specs.Columns.{rank}
 use Rattle.family.specs.declared.Family.{Family}
 use Rattle.family.specs.Readings.{listOf}
 use Rattle.family.proofs.Marked.{list-vectors, list-length}
-use Rattle.bordered.specs.Checks.{oddRelation, relationSum, unitLower, validate, sameRows, verifiesBordered}
+use Rattle.bordered.specs.Checks.{oddRelation, relationSum, unitLower, validate, verifiesBordered}
 
 -- ---- any tests
 
@@ -47,4 +49,4 @@ family-tests r E f =
 pub list-tests : (n : ℕ) (F : List ℕ) (r : ℕ) (vs : List ℕ)
     → chain (eqb (length vs) (suc r) ∷ allOf (λ v. not (eqb v 0)) vs ∷ fitAll (n + n) vs ∷ []) (sameRows (product n vs) F) ≡ verifiesBordered n F r vs
 unfolding verifiesBordered
-list-tests n F r vs = refl
+list-tests n F r vs = ap (λ b. eqb (length vs) (suc r) && (allOf (λ v. not (eqb v 0)) vs && b)) (sym (matches-is n F vs))

@@ -1,8 +1,8 @@
 -- A bordered list that passed its checks: r + 1 vectors, none zero, none out of width, and their product is F.
 -- Assumes nothing.
-use mathlib.Core.Path.{_≡_, refl, sym, ap, ap₂, _∙_, subst}
-use mathlib.Core.Bool.{Bool, true, false, _&&_, not, true≢false, and-eq-true-iff}
-use mathlib.Core.List.{List, [], _∷_, map}
+use mathlib.Core.Path.{_≡_, refl, sym, ap, _∙_, subst}
+use mathlib.Core.Bool.{Bool, true, false, _&&_, not, and-eq-true-iff}
+use mathlib.Core.List.{List, map}
 use mathlib.Core.Option.{Option, none, some}
 use Prim.Native.Nat.{ℕ, suc, _+_, _^_, _≤_, _<_}
 use native.Mathlib.Omega.{arith}
@@ -12,21 +12,14 @@ use borrow.Author.Tests.{eqb-true, eqb-false, not-true}
 use Rattle.blocks.specs.Matrices.{times, All}
 use Rattle.blocks.proofs.All.{All·map}
 use Rattle.symplectic.specs.Turns.{allOf, product}
-use Rattle.symplectic.specs.Replies.{fitAll}
+use Rattle.symplectic.specs.Matches.{matches}
 use Rattle.symplectic.proofs.Lists.{all-true}
 use Rattle.symplectic.proofs.Products.{product-length, product-lt}
-use Rattle.symplectic.proofs.Questions.{fit-all}
+use Rattle.symplectic.proofs.Matches.{matches-known}
 use Rattle.symplectic.specs.Picks.{when}
 use Rattle.reduction.specs.Residue.{basis, core, form}
 use Rattle.reduction.proofs.Core.{basis-size}
-use Rattle.bordered.specs.Checks.{vectors, validate, sameRows, verifiesBordered, checkedList, coreFamily, borderedList}
-
-pub rows-equal : (xs ys : List ℕ) → sameRows xs ys ≡ true → xs ≡ ys
-rows-equal [] [] e = refl
-rows-equal [] (y ∷ ys) e = absurd (true≢false (sym e))
-rows-equal (x ∷ xs) [] e = absurd (true≢false (sym e))
-rows-equal (x ∷ xs) (y ∷ ys) e =
-    let k = and-eq-true-iff (eqb x y) (sameRows xs ys) .0 e in ap₂ _∷_ (eqb-true x y (k .0)) (rows-equal xs ys (k .1))
+use Rattle.bordered.specs.Checks.{vectors, validate, verifiesBordered, checkedList, coreFamily, borderedList}
 
 -- what `verifies_bordered_decomposition` has seen of a list
 pub record Verified (n : ℕ) (F vs : List ℕ) : Type 0 where
@@ -39,14 +32,14 @@ pub verifies : (n : ℕ) (F vs : List ℕ) → verifiesBordered n F (length (bas
 unfolding verifiesBordered
 verifies n F vs e =
     let test : ℕ → Bool = λ v. not (eqb v 0) in
-    let a = and-eq-true-iff (eqb (length vs) (suc (length (basis n F)))) (allOf test vs && (fitAll (n + n) vs && sameRows (product n vs) F)) .0 e in
-    let b = and-eq-true-iff (allOf test vs) (fitAll (n + n) vs && sameRows (product n vs) F) .0 (a .1) in
-    let c = and-eq-true-iff (fitAll (n + n) vs) (sameRows (product n vs) F) .0 (b .1) in
+    let a = and-eq-true-iff (eqb (length vs) (suc (length (basis n F)))) (allOf test vs && matches n F vs) .0 e in
+    let b = and-eq-true-iff (allOf test vs) (matches n F vs) .0 (a .1) in
+    let c = matches-known n F vs (b .1) in
     record {
-      replays = rows-equal (product n vs) F (c .1);
+      replays = c .1;
       size = eqb-true (length vs) (suc (length (basis n F))) (a .0);
       nonzero = All·map (λ v t. eqb-false v 0 (not-true (eqb v 0) t)) vs (all-true test vs (b .0));
-      fits = fit-all (n + n) vs (c .0);
+      fits = c .0;
     }
 
 -- a candidate that did not pass is none

@@ -3,13 +3,14 @@
 use mathlib.Core.Bool.{Bool, true, false, _&&_, not}
 use mathlib.Core.List.{List, [], _∷_, map}
 use mathlib.Core.Option.{Option, none, some}
-use Prim.Native.Nat.{ℕ, suc, _+_}
+use Prim.Native.Nat.{ℕ, suc}
 use lib.Dec.{eqb}
 use lib.ListN.{length}
 use Rattle.binar.specs.Bits.{_⊻_, select, _⊕_}
 use Rattle.blocks.specs.Matrices.{times, units}
-use Rattle.symplectic.specs.Turns.{allOf, product}
+use Rattle.symplectic.specs.Turns.{allOf}
 use Rattle.symplectic.specs.Replies.{fitAll}
+use Rattle.symplectic.specs.Matches.{matches}
 use Rattle.symplectic.specs.Picks.{when}
 use Rattle.reduction.specs.Columns.{rank}
 use Rattle.reduction.specs.Residue.{basis, core, form}
@@ -44,17 +45,10 @@ validate r E l =
     fitAll r (vectors l)
     && (eqb (length l) (suc r) && (oddRelation l && (unitLower E l && (eqb (relationSum l) 0 && eqb (rank r (vectors l)) r))))
 
--- two lists of numbers are equal
-abbrev pub sameRows : List ℕ → List ℕ → Bool
-sameRows [] [] = true
-sameRows [] (y ∷ ys) = false
-sameRows (x ∷ xs) [] = false
-sameRows (x ∷ xs) (y ∷ ys) = eqb x y && sameRows xs ys
-
--- `verifies_bordered_decomposition`: r + 1 vectors, none zero, none out of width, product F
+-- `verifies_bordered_decomposition`: r + 1 vectors, none zero, that match F
 unfoldable pub verifiesBordered : ℕ → List ℕ → ℕ → List ℕ → Bool
 verifiesBordered n F r vs =
-    eqb (length vs) (suc r) && (allOf (λ v. not (eqb v 0)) vs && (fitAll (n + n) vs && sameRows (product n vs) F))
+    eqb (length vs) (suc r) && (allOf (λ v. not (eqb v 0)) vs && matches n F vs)
 
 -- each vector of a family that is validated on the core E is multiplied by the basis B, order kept, and these are verified
 unfoldable pub checkedList : ℕ → List ℕ → List ℕ → List ℕ → Option (List (ℕ × Bool)) → Option (List ℕ)

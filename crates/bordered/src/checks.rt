@@ -10,11 +10,12 @@ ghost use lib.Dec.{eqb, leb};
 ghost use Rattle.binar.specs.Bits.{_⊻_, dot};
 ghost use Rattle.binar.specs.Rows.{val};
 ghost use Rattle.blocks.specs.Blocks.{rowsOf};
-ghost use Rattle.symplectic.specs.Turns.{allOf};
-ghost use Rattle.symplectic.specs.Actions.{qubits, matrix};
+ghost use Rattle.symplectic.specs.Turns.{allOf, product as productOf};
+ghost use Rattle.symplectic.specs.Actions.{capped, qubits, matrix};
+ghost use Rattle.symplectic.specs.Replies.{fitAll};
 ghost use Rattle.reduction.specs.Residue.{form};
 ghost use Rattle.family.specs.Readings.{listOf};
-ghost use Rattle.bordered.specs.Checks.{oddRelation, relationSum, unitLower, validate as validateOf, sameRows, verifiesBordered};
+ghost use Rattle.bordered.specs.Checks.{oddRelation, relationSum, unitLower, validate as validateOf, verifiesBordered};
 
 fn none_zero(b: Block) -> bool
     ensures { λ r. ⌜ r ≡ allOf (λ (v : ℕ). not (eqb v 0)) (rowsOf b) ⌝ }
@@ -22,6 +23,19 @@ fn none_zero(b: Block) -> bool
     let k = blocks::length_of(b);
     for i in 0..k {
         if binar::is_zero(b.rows[i]) {
+            return false;
+        }
+    }
+    true
+}
+
+// Whether each row has only columns below m.
+fn fit_all(m: usize, b: Block) -> bool
+    ensures { λ r. ⌜ r ≡ fitAll m (rowsOf b) ⌝ }
+{
+    let k = blocks::length_of(b);
+    for i in 0..k {
+        if !binar::fits(b.rows[i], m) {
             return false;
         }
     }
@@ -101,7 +115,7 @@ pub(crate) fn validate(r: usize, core: Block, f: Family) -> bool
     ensures { λ x. ⌜ x ≡ validateOf r (form (rowsOf core)) (listOf f) ⌝ }
 {
     let vectors = f.vectors;
-    if !symplectic::fit_all(r, vectors) {
+    if !fit_all(r, vectors) {
         return false;
     }
     if !one_more(blocks::length_of(vectors), r) {
@@ -119,18 +133,16 @@ pub(crate) fn validate(r: usize, core: Block, f: Family) -> bool
     reduction::rank(r, vectors) == r
 }
 
-fn same_rows(a: Action, b: Action) -> bool
-    requires { ⌜ qubits a ≡ qubits b ⌝ }
-    ensures { λ r. ⌜ r ≡ sameRows (matrix a) (matrix b) ⌝ }
+// The product of the rows of a block.
+fn product(n: u64, b: Block) -> Action
+    ensures { λ r. ⌜ (qubits r ≡ capped n) × (matrix r ≡ productOf (capped n) (rowsOf b)) ⌝ }
 {
-    let n = symplectic::qubits_of(a);
-    let k = n + n;
-    for i in 0..k {
-        if !binar::equal(a.rows[i], b.rows[i]) {
-            return false;
-        }
+    let count = blocks::length_of(b);
+    let mut a = symplectic::identity(n);
+    for t in 0..count {
+        a = symplectic::followed(a, b.rows[t]);
     }
-    true
+    a
 }
 
 // Whether the vectors of a bordered list are r + 1, none zero, none out of width, with the action for their product.
@@ -144,8 +156,8 @@ pub(crate) fn verifies_bordered_decomposition(a: Action, r: usize, vectors: Bloc
         return false;
     }
     let n = symplectic::qubits_of(a);
-    if !symplectic::fit_all(n + n, vectors) {
+    if !fit_all(n + n, vectors) {
         return false;
     }
-    same_rows(symplectic::product(a.n, vectors), a)
+    symplectic::same_rows(product(a.n, vectors), a)
 }

@@ -14,6 +14,9 @@ use Rattle.symplectic.proofs.Answered.{Meets}
 use Rattle.reduction.specs.Columns.{rank}
 use Rattle.reduction.specs.Pivots.{ReducedRows}
 use Rattle.fixed_space.specs.Promises.{Fixed, Spanning, InPlace, Complete, Reduced, Counted}
+use Rattle.shorter.specs.declared.Chosen.{Chosen}
+use Rattle.shorter.specs.Shorter.{shorterReply, partOf}
+use Rattle.shorter.proofs.Promised.{Promised, reply-list}
 use Rattle.transvection_exact.specs.NoneShorter.{NoneShorter}
 use Rattle.transvection_exact.specs.Answers.{Shortest, Exact}
 use Rattle.cabi.specs.Lent.{lentNumber, readFigures}
@@ -167,3 +170,16 @@ module _ (reply : Reply) (left : List ℕ) (t : Figures) (before count : ℕ) (s
             ),
           ),
         )
+
+-- ---- the list that is chosen
+
+module _ (n : ℕ) (rows first second : List ℕ) (t : Chosen) (is : t ≡ shorterReply n rows first second) (before list : ℕ) (s : Stored (t .number) (t .list) before list) where
+  pub lent-shorter : let reply = shorterReply n rows first second in
+      (t .number ≡ reply .number) × ((list ≡ lentNumber (t .number) (reply .list) before) × Promised n rows first second (partOf list first second) (t .number))
+  lent-shorter = (
+    ap (λ (x : Chosen). x .number) is,
+    (
+      stored-number (t .number) (t .list) before list s ∙ ap (λ (x : Chosen). lentNumber (t .number) (x .list) before) is,
+      reply-list n rows first second t is list (s .0),
+    ),
+  )

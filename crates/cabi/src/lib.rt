@@ -6,6 +6,8 @@ ghost use Prim.Native.Nat.{_*_, _≤_};
 ghost use Rattle.blocks.specs.Words.{rowsOfWords};
 ghost use Rattle.symplectic.specs.Replies.{Replays, Rebuilds};
 ghost use Rattle.rebuild.specs.Rebuilds.{rebuildReply};
+ghost use Rattle.shorter.specs.Shorter.{shorterReply, partOf};
+ghost use Rattle.shorter.specs.Promises.{Played, NeitherShorter, FirstAtEqual, Neither};
 ghost use Rattle.fixed_space.specs.FixedSpace.{fixedReply};
 ghost use Rattle.fixed_space.specs.Promises.{InPlace, Complete, Reduced, Counted};
 ghost use Rattle.transvection.specs.Greedy.{greedyReply};
@@ -96,6 +98,30 @@ pub extern "C" fn turnlist_rebuild(n: u64, vectors: &[u64], out: &mut [u64], cou
         *count = product.count;
     }
     product.number
+}
+
+// Which of two lists to play, the shorter one whose product is an action: 1 for the first, 2 for the second.
+#[no_mangle]
+pub extern "C" fn turnlist_shorter(
+    n: u64,
+    rows: &[u64],
+    first: &[u64],
+    second: &[u64],
+    chosen: &mut u64,
+) -> u64
+    ensures answered { λ r. ⌜ r ≡ shorterReply n (now (rows .entry)) (now (first .entry)) (now (second .entry)) .number ⌝ }
+    ensures told { λ r. ⌜ now (chosen .exit) ≡ lentNumber r (shorterReply n (now (rows .entry)) (now (first .entry)) (now (second .entry)) .list) (now (chosen .entry)) ⌝ }
+    ensures played { λ r. ⌜ Played n (now (rows .entry)) (now (first .entry)) (now (second .entry)) (partOf (now (chosen .exit)) (now (first .entry)) (now (second .entry))) r ⌝ }
+    ensures neither_shorter { λ r. ⌜ NeitherShorter n (now (rows .entry)) (now (first .entry)) (now (second .entry)) (partOf (now (chosen .exit)) (now (first .entry)) (now (second .entry))) r ⌝ }
+    ensures first_at_equal { λ r. ⌜ FirstAtEqual n (now (rows .entry)) (now (first .entry)) (now (second .entry)) (partOf (now (chosen .exit)) (now (first .entry)) (now (second .entry))) r ⌝ }
+    ensures neither { λ r. ⌜ Neither n (now (rows .entry)) (now (first .entry)) (now (second .entry)) r ⌝ }
+{
+    let answer = shorter::choose(n, rows, first, second);
+    let shorter = shorter::chosen_of(answer);
+    if shorter.number == 0 {
+        *chosen = shorter.list;
+    }
+    shorter.number
 }
 
 // The action of a gate sequence, three bytes a gate.

@@ -1,2 +1,1 @@
 pub mod Replied
-pub mod Multiplied

@@ -1,9 +1,12 @@
 // The rebuild: the product of a lent list, laid into lent rows.
 // Not in the source.
+use symplectic::Action;
 use symplectic::Figures;
 use symplectic::MAX_QUBITS;
 ghost use mathlib.Core.Path.{_≡_};
 ghost use Rattle.blocks.specs.Words.{rowsOfWords};
+ghost use Rattle.symplectic.specs.Actions.{capped, qubits, matrix};
+ghost use Rattle.symplectic.specs.Turns.{product};
 ghost use Rattle.symplectic.specs.Replies.{Rebuilds};
 ghost use Rattle.rebuild.specs.Rebuilds.{rebuildReply};
 ghost use Rattle.rebuild.specs.Answers.{figuresOf};
@@ -44,6 +47,18 @@ pub fn figures_of(r: Rebuilt) -> Figures
     }
 }
 
+// The product of the vectors that lent words hold, however many they are.
+pub fn product_of(n: u64, list: &[u64]) -> Action
+    ensures { λ r. ⌜ (qubits r ≡ capped n) × (matrix r ≡ product (capped n) (rowsOfWords n (now (list .entry)))) ⌝ }
+{
+    let mut a = symplectic::identity(n);
+    for i in 0..list.len() {
+        let v = binar::of_word(list[i]);
+        a = symplectic::followed(a, v);
+    }
+    a
+}
+
 // The product of the turns of a list, in exactly 2n lent rows.
 pub fn rebuild(n: u64, list: &[u64], out: &mut [u64]) -> Rebuilt
     ensures answered { λ r. ⌜ figuresOf r ≡ rebuildReply n (now (list .entry)) (now (out .entry)) .figures ⌝ }
@@ -54,18 +69,12 @@ pub fn rebuild(n: u64, list: &[u64], out: &mut [u64]) -> Rebuilt
         return Rebuilt::TooManyQubits;
     }
     let count = n + n;
-    let m = count as usize;
-    if out.len() != m {
+    if out.len() != count as usize {
         return Rebuilt::WrongRowCount;
     }
-    let mut a = symplectic::identity(n);
-    for i in 0..list.len() {
-        let v = binar::of_word(list[i]);
-        if !binar::fits(v, m) {
-            return Rebuilt::VectorTooWide;
-        }
-        a = symplectic::followed(a, v);
+    if !symplectic::words_fit(n, list) {
+        return Rebuilt::VectorTooWide;
     }
-    symplectic::store(a, out);
+    symplectic::store(product_of(n, list), out);
     Rebuilt::Rows { count: count }
 }

@@ -1,5 +1,5 @@
 // replay: reads reference answers, records, from standard input, makes the call of each, and counts the whole answers that agree.
-// A record is a header of 32 bytes, little-endian, and two runs of words: what is lent, and what is listed. See tools/mkreplay.
+// A record is a header of 36 bytes, little-endian, and two runs of words: what is lent, and what is listed. See tools/mkreplay.
 // Not in the source.
 mod score;
 
@@ -8,7 +8,7 @@ ghost use mathlib.Core.Path.{_≡_};
 ghost use mathlib.Core.Bool.{true};
 ghost use Prim.Native.Nat.{_≤_, _<_};
 ghost use lib.ListN.{length};
-ghost use Rattle.replay.specs.inner.Records.{Alike, HasRoom};
+ghost use Rattle.replay.specs.inner.Records.{Alike, Split, HasRoom};
 
 // What each output word holds before a call.
 const FILL: u64 = 0xa5a5a5a5a5a5a5a5;
@@ -22,7 +22,10 @@ const REBUILD: u64 = 2;
 
 const GATES: u64 = 3;
 
-// A record's header: the call, the size of a word in bytes, how many words are lent and listed, and the answer.
+const FIXED: u64 = 4;
+
+// A record's header: the call, the size of a word in bytes, how many words are lent and listed, and the answer. Of a choice between two
+// lists, rows and the first list are the lent words from the start, and the second list is the rest.
 struct Case {
     kind: u64,
     size: usize,
@@ -33,6 +36,8 @@ struct Case {
     n: u64,
     budget: u64,
     looks: u64,
+    rows: usize,
+    first: usize,
 }
 
 // ---- the calls
@@ -58,15 +63,44 @@ fn gate_words(n: u64, words: &[u64], out: &mut [u64]) -> Figures
     gates::figures_of(a)
 }
 
-fn known(kind: u64) -> bool
-    ensures { λ r. ⌜ (r ≡ true → kind < 5) ⌝ }
+// Words laid from the start of others.
+fn lay(words: &[u64], out: &mut [u64]) {
+    let count = blocks::lesser(words.len(), out.len());
+    for i in 0..count {
+        out[i] = words[i];
+    }
+}
+
+// The choice between two lists: the part that comes back is laid into the output words, and the looks say which list it is.
+fn shorter_words(c: Case, lent: &[u64], out: &mut [u64]) -> Figures
+    requires { ⌜ Split c (length (now lent)) ⌝ }
 {
-    kind < 5
+    let row_count = c.rows;
+    let first_count = c.first;
+    let rows = &lent[..row_count];
+    let lists = &lent[row_count..];
+    let first = &lists[..first_count];
+    let second = &lists[first_count..];
+    let mut number: u64 = 0;
+    let part = shorter::shorter_list(c.n, rows, first, second, &mut number);
+    lay(part, out);
+    let chosen = shorter::chosen_of(shorter::choose(c.n, rows, first, second));
+    Figures {
+        number: number,
+        count: part.len() as u64,
+        looks: chosen.list,
+    }
+}
+
+fn known(kind: u64) -> bool
+    ensures { λ r. ⌜ (r ≡ true → kind < 6) ⌝ }
+{
+    kind < 6
 }
 
 // The call of a known kind.
 fn call(c: Case, lent: &[u64], out: &mut [u64]) -> Figures
-    requires { ⌜ length (now lent) ≤ 320 ⌝ }
+    requires { ⌜ (length (now lent) ≤ 320) × Split c (length (now lent)) ⌝ }
 {
     if c.kind == MIN {
         let a = transvection_exact::clifford_to_transvections_minimal(c.n, lent, c.budget, out);
@@ -83,8 +117,11 @@ fn call(c: Case, lent: &[u64], out: &mut [u64]) -> Figures
     if c.kind == GATES {
         return gate_words(c.n, lent, out);
     }
-    let a = fixed_space::clifford_fixed_space(c.n, lent, out);
-    symplectic::figures_of(a)
+    if c.kind == FIXED {
+        let a = fixed_space::clifford_fixed_space(c.n, lent, out);
+        return symplectic::figures_of(a);
+    }
+    shorter_words(c, lent, out)
 }
 
 // ---- the records
@@ -150,6 +187,8 @@ fn case_of(head: &[u8]) -> Case {
         n: number_at(head, 8, 8),
         budget: number_at(head, 16, 8),
         looks: number_at(head, 24, 8),
+        rows: number_at(head, 32, 2) as usize,
+        first: number_at(head, 34, 2) as usize,
     }
 }
 
@@ -164,6 +203,12 @@ fn fits(c: Case) -> bool
         return false;
     }
     if 1024 < c.room {
+        return false;
+    }
+    if c.lent < c.rows {
+        return false;
+    }
+    if c.lent - c.rows < c.first {
         return false;
     }
     c.count <= 160

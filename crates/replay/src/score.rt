@@ -12,8 +12,8 @@ ghost use Rattle.replay.specs.inner.Records.{HasRoom};
 
 // How many records of each kind agree and differ, and how many were not read.
 struct Score {
-    agree: [u64; 5],
-    differ: [u64; 5],
+    agree: [u64; 6],
+    differ: [u64; 6],
     unread: u64,
 }
 
@@ -27,8 +27,8 @@ fn more(x: u64) -> u64 {
     if x < u64::MAX { x + 1 } else { x }
 }
 
-fn one_more(counts: [u64; 5], k: usize) -> [u64; 5]
-    requires { ⌜ k < 5 ⌝ }
+fn one_more(counts: [u64; 6], k: usize) -> [u64; 6]
+    requires { ⌜ k < 6 ⌝ }
 {
     let mut c = counts;
     c[k] = more(c[k]);
@@ -86,12 +86,12 @@ fn with_words(t: Score, c: Case) -> Step
 
 // Reads a record and counts it. A header that is cut short or asks for too much room is the last one.
 fn next_record(t: Score) -> Step {
-    let mut head = [0u8; 32];
+    let mut head = [0u8; 36];
     let got = io::read_full(STDIN_FILENO, &mut head);
     if got == 0 {
         return ended(t);
     }
-    if got < 32 {
+    if got < 36 {
         return ended(one_unread(t));
     }
     let c = case_of(&head);
@@ -118,6 +118,7 @@ fn print_score(t: Score) {
     print_kind(b"rebuild ", t.agree[2], t.differ[2]);
     print_kind(b"gates ", t.agree[3], t.differ[3]);
     print_kind(b"fixed ", t.agree[4], t.differ[4]);
+    print_kind(b"shorter ", t.agree[5], t.differ[5]);
     if t.unread == 0 {
         return;
     }
@@ -129,8 +130,8 @@ fn print_score(t: Score) {
 // Takes at most 100,000 steps; input whose end is not met by then counts as one record that was not read.
 pub(crate) fn run() {
     let mut t = Score {
-        agree: [0; 5],
-        differ: [0; 5],
+        agree: [0; 6],
+        differ: [0; 6],
         unread: 0,
     };
     for _ in 0u64..100000 {

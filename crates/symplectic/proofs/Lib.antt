@@ -6,6 +6,7 @@ pub mod Products
 pub mod Layers
 pub mod Arrays
 pub mod Tests
+pub mod Matches
 pub mod Questions
 pub mod Answered
 pub mod Listings

@@ -3,6 +3,7 @@
 use mathlib.Core.Path.{_≡_, refl, sym, ap, ap₂, _∙_, fun-ext}
 use mathlib.Core.List.{List, [], _∷_, _++_, map, map-map, map-id, reverse}
 use Prim.Native.Nat.{ℕ, suc, _+_, _*_, _^_, _<_}
+use native.Mathlib.Numerals.{add-one}
 use lib.ListN.{length, take, getD, length-map}
 use lib.Seq.{take-suc}
 use Rattle.binar.specs.Bits.{select, _⊕_}
@@ -126,6 +127,11 @@ product-snoc n vs v = product-append n vs (v ∷ [])
 -- one more of a list
 pub product-next : (n : ℕ) (vs : List ℕ) (i : ℕ) → i < length vs → product n (take (suc i) vs) ≡ followed n (product n (take i vs)) (getD vs i 0)
 product-next n vs i h = ap (product n) (take-suc vs i 0 h) ∙ product-snoc n (take i vs) (getD vs i 0)
+
+-- the next turn made of the product so far, for a loop
+pub product-more : (n : ℕ) (vs : List ℕ) (i : ℕ) → i < length vs → (F G : List ℕ) (v : ℕ) → F ≡ product n (take i vs) → v ≡ getD vs i 0 → G ≡ followed n F v → G ≡ product n (take (i + 1) vs)
+product-more n vs i h F G v so is made =
+    made ∙ ap₂ (followed n) so is ∙ sym (product-next n vs i h) ∙ ap (λ (k : ℕ). product n (take k vs)) (sym (add-one i))
 
 pub product-length : (n : ℕ) (vs : List ℕ) → length (product n vs) ≡ n + n
 unfolding product

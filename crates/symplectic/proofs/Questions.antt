@@ -7,13 +7,13 @@ use Prim.Native.Nat.{ℕ, zero, suc, _+_, _^_, _≤_, _<_}
 use native.Mathlib.Omega.{arith}
 use lib.Dec.{leb, ltb, eqb}
 use lib.ListN.{length}
-use borrow.Author.Tests.{ltb-true, leb-true, eqb-true, le-leb, lt-leb, eq-eqb, ne-eqb}
+use borrow.Author.Tests.{ltb-true, leb-true, eqb-true, lt-ltb, le-leb, lt-leb, eq-eqb, ne-eqb}
 use Rattle.blocks.specs.Matrices.{All}
 use Rattle.blocks.proofs.All.{All·map}
 use Rattle.symplectic.specs.Actions.{maxQubits}
 use Rattle.symplectic.specs.Turns.{allOf, symplectic}
 use Rattle.symplectic.specs.Replies.{Reply, refused, ask, andThen, unlessRefused, fitAll, sizeQuestion, countQuestion, actionQuestions, listQuestions}
-use Rattle.symplectic.proofs.Lists.{all-true}
+use Rattle.symplectic.proofs.Lists.{all-true, true-all}
 
 -- ---- one question
 
@@ -29,6 +29,10 @@ fit-all-is m rows = refl
 pub fit-all : (m : ℕ) (rows : List ℕ) → fitAll m rows ≡ true → All (λ f. f < 2 ^ m) rows
 unfolding fitAll
 fit-all m rows e = All·map (λ v t. ltb-true v (2 ^ m) t) rows (all-true (λ v. ltb v (2 ^ m)) rows e)
+
+pub all-fit : (m : ℕ) (rows : List ℕ) → All (λ f. f < 2 ^ m) rows → fitAll m rows ≡ true
+unfolding fitAll
+all-fit m rows a = true-all (λ v. ltb v (2 ^ m)) rows (All·map (λ v h. lt-ltb v (2 ^ m) h) rows a)
 
 module _ (n later : ℕ) where
   pub size-refused : maxQubits < n → sizeQuestion n later ≡ 1
@@ -146,7 +150,7 @@ module _ (n : ℕ) (rows : List ℕ) (wanted lent : ℕ) where
       known zero p = (refl, leb-true wanted lent (ask-passed (leb wanted lent) 4 0 p .0))
       known (suc k) p = absurd (omega arith)
 
--- ---- the questions of a list call have numbers up to 5
+-- ---- the questions of an action, and of a list call, have numbers up to 5
 
 ask-small : (b : Bool) (k later : ℕ) → k ≤ 5 → later ≤ 5 → ask b k later ≤ 5
 ask-small true k later h l = l
@@ -156,14 +160,17 @@ then-small : (first later : ℕ) → first ≤ 5 → later ≤ 5 → andThen fir
 then-small zero later h l = l
 then-small (suc k) later h l = h
 
-pub list-small : (n : ℕ) (rows : List ℕ) (wanted lent : ℕ) → listQuestions n rows wanted lent ≤ 5
-unfolding listQuestions actionQuestions sizeQuestion countQuestion
-list-small n rows wanted lent =
-    then-small _ _
-    (ask-small (leb n maxQubits) 1 _ (omega arith)
+pub action-small : (n : ℕ) (rows : List ℕ) → actionQuestions n rows ≤ 5
+unfolding actionQuestions sizeQuestion countQuestion
+action-small n rows =
+    ask-small (leb n maxQubits) 1 _ (omega arith)
     (ask-small (eqb (length rows) (n + n)) 2 _ (omega arith)
-    (ask-small (fitAll (n + n) rows) 3 _ (omega arith) (ask-small (symplectic n rows) 4 0 (omega arith) (omega arith)))))
-    (ask-small (leb wanted lent) 5 0 (omega arith) (omega arith))
+    (ask-small (fitAll (n + n) rows) 3 _ (omega arith) (ask-small (symplectic n rows) 4 0 (omega arith) (omega arith))))
+
+pub list-small : (n : ℕ) (rows : List ℕ) (wanted lent : ℕ) → listQuestions n rows wanted lent ≤ 5
+unfolding listQuestions
+list-small n rows wanted lent =
+    then-small (actionQuestions n rows) (ask (leb wanted lent) 5 0) (action-small n rows) (ask-small (leb wanted lent) 5 0 (omega arith) (omega arith))
 
 -- ---- the reply
 

@@ -14,6 +14,23 @@ use Rattle.blocks.proofs.Units.{units-length, units-at}
 use Rattle.symplectic.specs.Turns.{pairing, allOf, pairAlike, symplectic}
 use Rattle.symplectic.specs.inner.Vectors.{pairsAsBasis}
 
+-- ---- one test and those behind it
+
+-- a test fails
+pub and-no : (a b : Bool) → a ≡ false → false ≡ a && b
+and-no a b e = ap (λ t. t && b) (sym e)
+
+-- a test is passed, and the others say t
+pub and-yes : (a b t : Bool) → a ≡ true → t ≡ b → t ≡ a && b
+and-yes a b t e d = d ∙ ap (λ s. s && b) (sym e)
+
+module _ (t rest now whole : Bool) (same : now ≡ whole) (parts : now ≡ t && rest) where
+  pub onward : t ≡ true → rest ≡ whole
+  onward e = and-yes t rest rest e refl ∙ sym parts ∙ same
+
+  pub stopped : t ≡ false → false ≡ whole
+  stopped e = and-no t rest e ∙ sym parts ∙ same
+
 -- ---- any test
 
 module _ {A : Type 0} (f : A → Bool) (d : A) where

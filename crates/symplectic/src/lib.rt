@@ -1,18 +1,17 @@
 // Actions on qubits: the pairing, turns, products, the symplectic test, and the questions that calls share.
 // In the source: transvection_exact.rs, `action_matrix`, `transvection_matrix`, `symplectic_dual`, `right_multiply_transvection`; the questions are added.
 use binar::Row;
-use blocks::Block;
 ghost use mathlib.Core.Path.{_≡_};
 ghost use Prim.Native.Nat.{_+_, _<_, _≤_};
 ghost use Rattle.binar.specs.Bits.{_⊕_, select, dot};
 ghost use Rattle.binar.specs.Rows.{val};
-ghost use Rattle.blocks.specs.Blocks.{rowsOf};
 ghost use Rattle.blocks.specs.Matrices.{units};
 ghost use Rattle.blocks.specs.Words.{rowsOfWords, laid};
-ghost use Rattle.symplectic.specs.Turns.{followed as followedOf, product as productOf, symplectic};
+ghost use Rattle.symplectic.specs.Turns.{followed as followedOf, symplectic};
 ghost use Rattle.symplectic.specs.inner.Vectors.{swapHalves, pairsAsBasis};
-ghost use Rattle.symplectic.specs.Actions.{maxQubits, capped, qubits, matrix, padded};
+ghost use Rattle.symplectic.specs.Actions.{maxQubits, capped as cappedOf, qubits, matrix, padded};
 ghost use Rattle.symplectic.specs.Replies.{fitAll, actionQuestions, nothingListed};
+ghost use Rattle.symplectic.specs.Matches.{sameRows};
 ghost use Rattle.symplectic.specs.Answers.{numberOf, figuresOf};
 
 // The most qubits of an action, and the most rows.
@@ -53,15 +52,22 @@ pub enum Listing {
     OutputTooShort,
 }
 
-// The qubits of an action: n, and the most where n is above that.
-pub fn qubits_of(a: Action) -> usize
-    ensures { λ r. ⌜ r ≡ qubits a ⌝ }
+// n, and the most qubits where n is above that.
+fn capped(n: u64) -> usize
+    ensures { λ r. ⌜ r ≡ cappedOf n ⌝ }
 {
-    if a.n < MAX_QUBITS {
-        a.n as usize
+    if n < MAX_QUBITS {
+        n as usize
     } else {
         MAX_QUBITS as usize
     }
+}
+
+// The qubits of an action.
+pub fn qubits_of(a: Action) -> usize
+    ensures { λ r. ⌜ r ≡ qubits a ⌝ }
+{
+    capped(a.n)
 }
 
 // A vector with its halves exchanged: its dot with a vector is their pairing.
@@ -102,7 +108,7 @@ pub fn followed(a: Action, v: Row) -> Action
 }
 
 pub fn identity(n: u64) -> Action
-    ensures { λ r. ⌜ (qubits r ≡ capped n) × (matrix r ≡ units (capped n + capped n)) ⌝ }
+    ensures { λ r. ⌜ (qubits r ≡ cappedOf n) × (matrix r ≡ units (cappedOf n + cappedOf n)) ⌝ }
 {
     let z = binar::zero();
     let mut a = Action {
@@ -116,21 +122,9 @@ pub fn identity(n: u64) -> Action
     a
 }
 
-// The product of the rows of a block.
-pub fn product(n: u64, b: Block) -> Action
-    ensures { λ r. ⌜ (qubits r ≡ capped n) × (matrix r ≡ productOf (capped n) (rowsOf b)) ⌝ }
-{
-    let count = blocks::length_of(b);
-    let mut a = identity(n);
-    for t in 0..count {
-        a = followed(a, b.rows[t]);
-    }
-    a
-}
-
 // The action that lent words hold.
 pub fn from_words(n: u64, words: &[u64]) -> Action
-    ensures { λ r. ⌜ (qubits r ≡ capped n) × (matrix r ≡ padded (capped n + capped n) (rowsOfWords n (now (words .entry)))) ⌝ }
+    ensures { λ r. ⌜ (qubits r ≡ cappedOf n) × (matrix r ≡ padded (cappedOf n + cappedOf n) (rowsOfWords n (now (words .entry)))) ⌝ }
 {
     let z = binar::zero();
     let mut a = Action {
@@ -189,13 +183,31 @@ fn is_symplectic(a: Action) -> bool
     true
 }
 
-// Whether each row has only columns below m.
-pub fn fit_all(m: usize, b: Block) -> bool
-    ensures { λ r. ⌜ r ≡ fitAll m (rowsOf b) ⌝ }
+// Whether two actions have the same rows.
+pub fn same_rows(a: Action, b: Action) -> bool
+    ensures { λ r. ⌜ r ≡ sameRows (matrix a) (matrix b) ⌝ }
 {
-    let k = blocks::length_of(b);
-    for i in 0..k {
-        if !binar::fits(b.rows[i], m) {
+    let n = qubits_of(a);
+    if qubits_of(b) != n {
+        return false;
+    }
+    let count = n + n;
+    for i in 0..count {
+        if !binar::equal(a.rows[i], b.rows[i]) {
+            return false;
+        }
+    }
+    true
+}
+
+// Whether each row that lent words hold has only columns below 2n.
+pub fn words_fit(n: u64, words: &[u64]) -> bool
+    ensures { λ r. ⌜ r ≡ fitAll (cappedOf n + cappedOf n) (rowsOfWords n (now (words .entry))) ⌝ }
+{
+    let k = capped(n);
+    let m = k + k;
+    for i in 0..words.len() {
+        if !binar::fits(binar::of_word(words[i]), m) {
             return false;
         }
     }
@@ -209,12 +221,11 @@ pub fn action_questions(n: u64, words: &[u64]) -> Question
     if MAX_QUBITS < n {
         return Question::TooManyQubits;
     }
-    let k = n as usize;
-    let m = k + k;
-    if words.len() != m {
+    let m = n + n;
+    if words.len() != m as usize {
         return Question::WrongRowCount;
     }
-    if !fit_all(m, blocks::from_words(n, words)) {
+    if !words_fit(n, words) {
         return Question::RowTooWide;
     }
     if !is_symplectic(from_words(n, words)) {

@@ -15,7 +15,13 @@ returns-3 : tie.Need-returns-3
 returns-3 c = never
 
 returns-4 : tie.Need-returns-4
-returns-4 c = search needs
+returns-4 c = never
+
+returns-5 : tie.Need-returns-5
+returns-5 c = never
+
+returns-6 : tie.Need-returns-6
+returns-6 c = search needs
 
 pub fits-spec : {M : Type 1} → statement M
-fits-spec = tie.close (tie.spec returns returns-2 returns-3 returns-4)
+fits-spec = tie.close (tie.spec returns returns-2 returns-3 returns-4 returns-5 returns-6)

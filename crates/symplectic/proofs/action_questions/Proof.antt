@@ -5,14 +5,12 @@ use mathlib.Core.List.{List}
 use Prim.Native.Nat.{ℕ, _+_}
 use native.Mathlib.Omega.{arith}
 use lib.ListN.{length}
-use lib.Seq.{take-all}
 use borrow.Author.Tests.{not-true, not-false}
-use Rattle.blocks.specs.Blocks.{room}
 use Rattle.blocks.specs.Words.{rowsOfWords}
 use Rattle.blocks.proofs.Values.{rows-count}
 use Rattle.symplectic.specs.Turns.{symplectic}
 use Rattle.symplectic.specs.Replies.{fitAll}
-use Rattle.symplectic.proofs.Arrays.{loaded}
+use Rattle.symplectic.proofs.Arrays.{capped-is, loaded}
 use Rattle.symplectic.proofs.Questions.{question-1, question-2, question-3, question-4, questions-passed}
 use borrow.Author.Needs.{needs}
 use Rattle.symplectic.proofs.action_questions.Statement.{statement}
@@ -23,18 +21,16 @@ size : (c : tie.Else2) → let s = c .before .before .before .args in length (ro
 size c = let s = c .before .before .before .args in rows-count (s .n) (s .words .now) ∙ omega arith
 
 -- the two tests of the code are those of the questions
-fit : (c : tie.After-fit-all) → let s = c .before .before .before .before .before .args in fitAll (s .n + s .n) (rowsOfWords (s .n) (s .words .now)) ≡ c .fit-all .result
+fit : (c : tie.After-words-fit) → let s = c .before .before .before .before .args in fitAll (s .n + s .n) (rowsOfWords (s .n) (s .words .now)) ≡ c .words-fit .result
 fit c =
-    let s = c .before .before .before .before .before .args in
-    let rows = rowsOfWords (s .n) (s .words .now) in
-    let h = size (c .before .before) in
-    sym (c .fit-all .ensures ∙ ap (fitAll (s .n + s .n)) (c .before .from-words .ensures ∙ take-all room rows (omega arith)))
+    let s = c .before .before .before .before .args in
+    sym (c .words-fit .ensures ∙ ap (λ (k : ℕ). fitAll (k + k) (rowsOfWords (s .n) (s .words .now))) (capped-is (s .n) (search needs)))
 
-tested : (c : tie.After-is-symplectic) → let s = c .before .before .before .before .before .before .before .before .args in symplectic (s .n) (rowsOfWords (s .n) (s .words .now)) ≡ c .is-symplectic .result
+tested : (c : tie.After-is-symplectic) → let s = c .before .before .before .before .before .before .before .args in symplectic (s .n) (rowsOfWords (s .n) (s .words .now)) ≡ c .is-symplectic .result
 tested c =
-    let s = c .before .before .before .before .before .before .before .before .args in
-    let e = c .before .from-words2 .ensures in
-    let same = loaded (c .before .from-words2 .result) (s .n) (rowsOfWords (s .n) (s .words .now)) (search needs) (size (c .before .before .before .before .before)) (e .0) (e .1) in
+    let s = c .before .before .before .before .before .before .before .args in
+    let e = c .before .from-words .ensures in
+    let same = loaded (c .before .from-words .result) (s .n) (rowsOfWords (s .n) (s .words .now)) (search needs) (size (c .before .before .before .before)) (e .0) (e .1) in
     sym (c .is-symplectic .ensures ∙ ap₂ (λ (n : ℕ) (F : List ℕ). symplectic n F) (same .0) (same .1))
 
 returns : tie.Need-returns
@@ -48,35 +44,32 @@ returns-2 c =
     let s = c .before .before .before .args in
     sym (question-2 (s .n) (rowsOfWords (s .n) (s .words .now)) (search needs) (λ e. c .if2 .taken (sym (rows-count (s .n) (s .words .now)) ∙ e)))
 
-from-words-requires : tie.Need-from-words-requires
-from-words-requires c κs = search needs
-
-fit-all-requires : tie.Need-fit-all-requires
-fit-all-requires c κs = search needs
+words-fit-requires : tie.Need-words-fit-requires
+words-fit-requires c κs = search needs
 
 returns-3 : tie.Need-returns-3
 returns-3 c =
-    let s = c .before .before .before .before .before .before .args in
-    sym (question-3 (s .n) (rowsOfWords (s .n) (s .words .now)) (search needs) (size (c .before .before .before)) (fit (c .before) ∙ not-true (c .before .fit-all .result) (c .if3 .taken)))
+    let s = c .before .before .before .before .before .args in
+    sym (question-3 (s .n) (rowsOfWords (s .n) (s .words .now)) (search needs) (size (c .before .before)) (fit (c .before) ∙ not-true (c .before .words-fit .result) (c .if3 .taken)))
 
-from-words-requires-2 : tie.Need-from-words-requires-2
-from-words-requires-2 c κs = search needs
+from-words-requires : tie.Need-from-words-requires
+from-words-requires c κs = search needs
 
 is-symplectic-requires : tie.Need-is-symplectic-requires
 is-symplectic-requires c κs = search needs
 
 returns-4 : tie.Need-returns-4
 returns-4 c =
-    let s = c .before .before .before .before .before .before .before .before .before .args in
+    let s = c .before .before .before .before .before .before .before .before .args in
     let f = c .before .before .before .before in
-    sym (question-4 (s .n) (rowsOfWords (s .n) (s .words .now)) (search needs) (size (f .before .before)) (fit f ∙ not-false (f .fit-all .result) (c .before .before .before .if3 .left))
+    sym (question-4 (s .n) (rowsOfWords (s .n) (s .words .now)) (search needs) (size (f .before)) (fit f ∙ not-false (f .words-fit .result) (c .before .before .before .if3 .left))
     (tested (c .before) ∙ not-true (c .before .is-symplectic .result) (c .if4 .taken)))
 
 returns-5 : tie.Need-returns-5
 returns-5 c =
-    let s = c .before .before .before .before .before .before .before .before .before .args in
+    let s = c .before .before .before .before .before .before .before .before .args in
     let f = c .before .before .before .before in
-    sym (questions-passed (s .n) (rowsOfWords (s .n) (s .words .now)) (search needs) (size (f .before .before)) (fit f ∙ not-false (f .fit-all .result) (c .before .before .before .if3 .left))
+    sym (questions-passed (s .n) (rowsOfWords (s .n) (s .words .now)) (search needs) (size (f .before)) (fit f ∙ not-false (f .words-fit .result) (c .before .before .before .if3 .left))
     (tested (c .before) ∙ not-false (c .before .is-symplectic .result) (c .if4 .left)))
 
 pub action-questions-spec : {M : Type 1} → statement M
@@ -86,10 +79,9 @@ action-questions-spec =
     returns
     add-m
     returns-2
-    from-words-requires
-    fit-all-requires
+    words-fit-requires
     returns-3
-    from-words-requires-2
+    from-words-requires
     is-symplectic-requires
     returns-4
     returns-5)

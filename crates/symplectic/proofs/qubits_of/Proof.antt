@@ -1,17 +1,16 @@
--- `qubits_of` answers the lesser of n and the most qubits, which is what the qubits of an action are.
+-- `qubits_of` answers n, and the most qubits where n is above that: the qubits of an action.
 -- Assumes nothing.
-use Rattle.symplectic.specs.Actions.{capped, qubits}
+use mathlib.Core.Path.{_∙_, sym}
+use Rattle.symplectic.proofs.Arrays.{qubits-capped}
 use borrow.Author.Needs.{needs}
 use Rattle.symplectic.proofs.qubits_of.Statement.{statement}
 use Rattle.symplectic.proofs.qubits_of.Tie as tie
 
-returns : tie.Need-returns
-unfolding qubits capped
-returns c = search needs
+capped-requires : tie.Need-capped-requires
+capped-requires c κs = search needs
 
-returns-2 : tie.Need-returns-2
-unfolding qubits capped
-returns-2 c = search needs
+returns : tie.Need-returns
+returns c = c .capped .ensures ∙ sym (qubits-capped (c .before .args .a))
 
 pub qubits-of-spec : {M : Type 1} → statement M
-qubits-of-spec = tie.close (tie.spec returns returns-2)
+qubits-of-spec = tie.close (tie.spec capped-requires returns)

@@ -1,6 +1,7 @@
 -- `unit_lower` tests the diagonal of row after row, then each entry behind it, by `all-open` and `lower-open`.
 -- Assumes nothing.
-use Rattle.bordered.proofs.Onwards.{and-no, and-yes, onward, stopped, all-open, all-left, lower-left, lower-stopped, lower-onward}
+use Rattle.bordered.proofs.Onwards.{all-open, all-left, lower-left, lower-stopped, lower-onward}
+use Rattle.symplectic.proofs.Tests.{and-no, and-yes, onward, stopped}
 use Rattle.bordered.proofs.Relation.{gram-is}
 use Rattle.bordered.specs.inner.Rows.{rowLower}
 use Rattle.bordered.specs.Checks.{borderedForm, unitLower}

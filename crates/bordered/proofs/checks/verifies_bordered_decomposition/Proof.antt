@@ -1,7 +1,7 @@
 -- `verifies_bordered_decomposition` answers by the first test that fails, or by the last, as `list-tests` has them.
 -- Assumes nothing.
 use Rattle.bordered.proofs.Verdicts.{chain, chain-left, chain-stops, list-tests}
-use Rattle.bordered.specs.Checks.{sameRows}
+use Rattle.symplectic.specs.Matches.{sameRows}
 use Rattle.symplectic.proofs.Arrays.{qubits-le, qubits-capped}
 use Rattle.symplectic.specs.Replies.{fitAll}
 use Rattle.symplectic.specs.Turns.{allOf, product}
@@ -77,7 +77,7 @@ product-requires : tie.Need-product-requires
 product-requires c κs = search needs
 
 same-rows-requires : tie.Need-same-rows-requires
-same-rows-requires c κs = c .product .ensures .0 ∙ sym (qubits-capped (c .before .before .before .before .before .before .before .before .before .args .a))
+same-rows-requires c κs = search needs
 
 returns-4 : tie.Need-returns-4
 returns-4 c =

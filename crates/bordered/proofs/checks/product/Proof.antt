@@ -1,22 +1,21 @@
--- `product` applies the turns of the rows in order, by `product-next`.
+-- `product` applies the turns of the rows in order, by `product-more`.
 -- Assumes nothing.
-use Rattle.symplectic.proofs.Products.{product-nil, product-next}
+use Rattle.symplectic.proofs.Products.{product-nil, product-more}
 use Rattle.symplectic.specs.Turns.{followed, product}
 use Rattle.symplectic.specs.Actions.{capped, qubits, matrix}
 use Rattle.blocks.specs.Blocks.{room, rowsOf}
 use Rattle.blocks.proofs.Values.{rows-get, rows-fit, unmapped}
 use Rattle.binar.specs.Rows.{val}
 use Rattle.binar.specs.inner.Blank.{blank}
 use lib.Seq.{take-all}
 use lib.ListN.{length, getD, take}
-use native.Mathlib.Numerals.{add-one}
 use Prim.Native.Nat.{ℕ, _-_, _≤_, _<_}
 use mathlib.Core.List.{List}
 use mathlib.Core.Path.{_≡_, sym, ap, ap₂, _∙_}
 use native.Mathlib.Omega.{arith}
 use borrow.Author.Needs.{needs}
-use Rattle.symplectic.proofs.product.Statement.{statement}
-use Rattle.symplectic.proofs.product.Tie as tie
+use Rattle.bordered.proofs.checks.product.Statement.{statement}
+use Rattle.bordered.proofs.checks.product.Tie as tie
 
 abbrev Inv-loop : tie.InvT-loop
 Inv-loop n b k a₀ t₀ a t = (t ≤ k) × (k ≤ room) × (qubits a ≡ capped n) × (matrix a ≡ product (capped n) (take t (rowsOf b)))
@@ -54,16 +53,14 @@ loop-again : tie.Need-loop-again Inv-loop μ-loop
 loop-again c =
     let s = c .before .before .before .before .before .before .args in
     let at = c .before .before .before .loop in
-    let q = capped (s .n) in
     let vs = rowsOf (s .t2) in
     let v = val (getD (s .t2 .rows) (at .t) blank) in
     let h : at .t < length vs = omega (arith, c .before .before .before .before .before .length-of .ensures) in (
       search needs,
       at .inv .1,
       c .followed .ensures .0 ∙ at .inv .2,
-      c .followed .ensures .1 ∙ ap (λ (k : ℕ). followed k (matrix (at .a)) v) (at .inv .2)
-          ∙ ap₂ (λ (F : List ℕ) (v : ℕ). followed q F v) (at .inv .3) (rows-get (s .t2) (at .t) h)
-          ∙ sym (ap (λ (k : ℕ). product q (take k vs)) (add-one (at .t)) ∙ product-next q vs (at .t) h),
+      product-more (capped (s .n)) vs (at .t) h (matrix (at .a)) (matrix (c .followed .result)) v (at .inv .3) (rows-get (s .t2) (at .t) h)
+          (c .followed .ensures .1 ∙ ap (λ (k : ℕ). followed k (matrix (at .a)) v) (at .inv .2)),
     )
 
 returns : tie.Need-returns Inv-loop μ-loop

@@ -1,8 +1,8 @@
 -- `fit_all` passes the rows one by one, by `all-next`; one that is too wide fails the test, by `all-fails`.
 -- Assumes nothing.
 use Rattle.symplectic.proofs.Tests.{all-next, all-fails, all-end}
-use Rattle.symplectic.specs.Replies.{fitAll}
+use Rattle.symplectic.proofs.Questions.{fit-all-is}
 use Rattle.symplectic.specs.Turns.{allOf}
 use Rattle.blocks.specs.Blocks.{room, rowsOf}
 use Rattle.blocks.proofs.Values.{rows-get, rows-fit, unmapped}
 use borrow.Author.Tests.{not-true, not-false}
@@ -13,8 +13,8 @@ use mathlib.Core.Bool.{true}
 use mathlib.Core.Path.{_≡_, refl, sym, ap, _∙_}
 use native.Mathlib.Omega.{arith}
 use borrow.Author.Needs.{needs}
-use Rattle.symplectic.proofs.fit_all.Statement.{statement}
-use Rattle.symplectic.proofs.fit_all.Tie as tie
+use Rattle.bordered.proofs.checks.fit_all.Statement.{statement}
+use Rattle.bordered.proofs.checks.fit_all.Tie as tie
 
 abbrev Inv-loop : tie.InvT-loop
 Inv-loop m b k i₀ i = (i ≤ k) × (k ≤ room) × (allOf (λ v. ltb v (2 ^ m)) (take i (rowsOf b)) ≡ true)
@@ -40,12 +40,11 @@ fits-requires : tie.Need-fits-requires Inv-loop μ-loop
 fits-requires c κs = search needs
 
 returns : tie.Need-returns Inv-loop μ-loop
-unfolding fitAll
 returns c =
     let s = c .before .before .before .before .before .before .args in
     let at = c .before .before .before .before .loop in
     let h : at .i < length (rowsOf (s .t2)) = omega (arith, c .before .before .before .before .before .length-of .ensures) in
-    all-fails (λ (v : ℕ). ltb v (2 ^ s .m)) 0 (rowsOf (s .t2)) (at .i) h (sym (c .before .fits2 .ensures ∙ ap (λ (v : ℕ). ltb v (2 ^ s .m)) (rows-get (s .t2) (at .i) h)) ∙ not-true (c .before .fits2 .result) (c .if1 .taken))
+    (all-fails (λ (v : ℕ). ltb v (2 ^ s .m)) 0 (rowsOf (s .t2)) (at .i) h (sym (c .before .fits2 .ensures ∙ ap (λ (v : ℕ). ltb v (2 ^ s .m)) (rows-get (s .t2) (at .i) h)) ∙ not-true (c .before .fits2 .result) (c .if1 .taken))) ∙ sym (fit-all-is (s .m) (rowsOf (s .t2)))
 
 add-i : tie.Need-add-i Inv-loop μ-loop
 add-i c = search needs
@@ -61,10 +60,9 @@ loop-again c =
     (search needs, search needs, all-next (λ (v : ℕ). ltb v (2 ^ s .m)) 0 (rowsOf (s .t2)) (at .i) h (at .inv .2) (sym (c .before .fits2 .ensures ∙ ap (λ (v : ℕ). ltb v (2 ^ s .m)) (rows-get (s .t2) (at .i) h)) ∙ not-false (c .before .fits2 .result) (c .if1 .left)))
 
 returns-2 : tie.Need-returns-2 Inv-loop μ-loop
-unfolding fitAll
 returns-2 c =
     let s = c .before .before .before .args in
-    all-end (λ (v : ℕ). ltb v (2 ^ s .m)) (rowsOf (s .t2)) (c .before .loop .i) (omega (arith, c .before .before .length-of .ensures)) (c .before .loop .inv .2)
+    all-end (λ (v : ℕ). ltb v (2 ^ s .m)) (rowsOf (s .t2)) (c .before .loop .i) (omega (arith, c .before .before .length-of .ensures)) (c .before .loop .inv .2) ∙ sym (fit-all-is (s .m) (rowsOf (s .t2)))
 
 pub fit-all-spec : {M : Type 1} → statement M
 fit-all-spec =

@@ -1,0 +1,48 @@
+-- The shorter of two lists that match an action, the first at equal length. Zero vectors count towards length.
+-- Assumes nothing.
+use mathlib.Core.Bool.{Bool, true, false}
+use mathlib.Core.List.{List, []}
+use Prim.Native.Nat.{ℕ, zero, suc}
+use lib.Dec.{ltb, eqb}
+use lib.ListN.{length}
+use Rattle.binar.specs.Bits.{select}
+use Rattle.blocks.specs.Words.{rowsOfWords}
+use Rattle.symplectic.specs.Replies.{actionQuestions}
+use Rattle.symplectic.specs.Matches.{matches}
+use Rattle.shorter.specs.declared.Chosen.{Chosen}
+
+-- an answer: the first list or the second; and a refusal, which has none. Open to users
+abbrev pub chosen : ℕ → Chosen
+chosen list = record { number = 0; list = list }
+
+abbrev pub refused : ℕ → Chosen
+refused number = record { number = number; list = 0 }
+
+-- whether the first list matches, whether the second does, and whether the second is shorter; 14 where neither matches
+abbrev pub played : Bool → Bool → Bool → Chosen
+played true true shorter = chosen (select 1 shorter 2)
+played true false shorter = chosen 1
+played false true shorter = chosen 2
+played false false shorter = refused 14
+
+unfoldable pub shorterOf : ℕ → List ℕ → List ℕ → List ℕ → Chosen
+shorterOf n F vs ws = played (matches n F vs) (matches n F ws) (ltb (length ws) (length vs))
+
+-- the answer where every question of the action is passed, else the refusal
+abbrev pub unlessRefused : ℕ → Chosen → Chosen
+unlessRefused zero answer = answer
+unlessRefused (suc number) answer = refused (suc number)
+
+-- questions 1 to 4 of the action, then 14
+unfoldable pub shorterReply : ℕ → List ℕ → List ℕ → List ℕ → Chosen
+shorterReply n rows first second =
+    let F = rowsOfWords n rows in
+    unlessRefused (actionQuestions n F) (shorterOf n F (rowsOfWords n first) (rowsOfWords n second))
+
+-- what comes back of the two lent lists: the first whole, the second whole, or nothing of the first
+unfoldable pub partOf : ℕ → List ℕ → List ℕ → List ℕ
+partOf list first second = select (select [] (eqb list 2) second) (eqb list 1) first
+
+-- where it stands: at the start of the second list, or of the first
+unfoldable pub placeOf : {A : Type 0} → ℕ → A → A → A
+placeOf list first second = select first (eqb list 2) second
