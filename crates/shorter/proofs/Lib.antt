@@ -1,2 +1,2 @@
-pub mod Played
+pub mod Choices
 pub mod Promised

@@ -18,8 +18,8 @@ use Rattle.symplectic.specs.Matches.{matches}
 use Rattle.symplectic.proofs.Matches.{matches-known, known-matches}
 use Rattle.symplectic.proofs.Questions.{action-small}
 use Rattle.shorter.specs.declared.Chosen.{Chosen}
-use Rattle.shorter.specs.Shorter.{chosen, refused, played, unlessRefused, shorterOf, shorterReply, partOf, placeOf}
-use Rattle.shorter.specs.Promises.{Plays, NoLonger, Played, NeitherShorter, FirstAtEqual, Unplayed, Neither}
+use Rattle.shorter.specs.Shorter.{chosen, nothingChosen, preferred, chosenUnless, shorterOf, shorterReply, partOf, placeOf}
+use Rattle.shorter.specs.Promises.{Plays, NoLonger, Played, NeitherShorter, FirstAtEqual, Neither}
 
 -- ---- the part of each choice
 
@@ -68,17 +68,14 @@ module _ (n : ℕ) (rows first second : List ℕ) where
 
   -- ---- the promises of each choice
 
-  known-first : Plays n rows first → matches n F vs ≡ true
-  known-first p = known-matches n F vs (p .0) (p .1)
-
-  known-second : Plays n rows second → matches n F ws ≡ true
-  known-second p = known-matches n F ws (p .0) (p .1)
+  known : (list : List ℕ) → Plays n rows list → matches n F (rowsOfWords n list) ≡ true
+  known list p = known-matches n F (rowsOfWords n list) (p .0) (p .1)
 
   plays-first : matches n F vs ≡ true → (matches n F ws ≡ true → length vs ≤ length ws) → Kept (chosen 1)
   unfolding partOf
   plays-first p short = (
     λ z. (inl refl, matches-known n F vs p),
-    (λ z. (λ h. le-refl (length vs), λ h. short (known-second h)), (λ z h l. refl, (λ z. absurd (omega arith), λ u. absurd (u .1 .0 (matches-known n F vs p))))),
+    (λ z. (λ h. le-refl (length vs), λ h. short (known second h)), (λ z h l. refl, (λ z. absurd (omega arith), λ u. absurd (u .1 .0 (matches-known n F vs p))))),
   )
 
   plays-second : matches n F ws ≡ true → (matches n F vs ≡ true → length ws < length vs) → Kept (chosen 2)
@@ -86,25 +83,25 @@ module _ (n : ℕ) (rows first second : List ℕ) where
   plays-second q short = (
     λ z. (inr refl, matches-known n F ws q),
     (
-      λ z. (λ h. omega (arith, short (known-first h)), λ h. le-refl (length ws)),
-      (λ z h l. absurd (omega (arith, l, short (known-first h))), (λ z. absurd (omega arith), λ u. absurd (u .1 .1 (matches-known n F ws q)))),
+      λ z. (λ h. omega (arith, short (known first h)), λ h. le-refl (length ws)),
+      (λ z h l. absurd (omega (arith, l, short (known first h))), (λ z. absurd (omega arith), λ u. absurd (u .1 .1 (matches-known n F ws q)))),
     ),
   )
 
   -- a number other than 0 promises what it says of 14 alone
-  refuses : (k : ℕ) → Neither n rows first second (suc k) → Kept (refused (suc k))
+  refuses : (k : ℕ) → Neither n rows first second (suc k) → Kept (nothingChosen (suc k))
   refuses k h = (λ z. absurd (omega arith), (λ z. absurd (omega arith), (λ z. absurd (omega arith), h)))
 
-  plays-neither : actionQuestions n F ≡ 0 → matches n F vs ≡ false → matches n F ws ≡ false → Kept (refused 14)
+  plays-neither : actionQuestions n F ≡ 0 → matches n F vs ≡ false → matches n F ws ≡ false → Kept (nothingChosen 14)
   plays-neither e p q =
-      refuses 13 (λ z. (e, (λ h. true≢false (sym (known-first h) ∙ p), λ h. true≢false (sym (known-second h) ∙ q))), λ u. refl)
+      refuses 13 (λ z. (e, (λ h. true≢false (sym (known first h) ∙ p), λ h. true≢false (sym (known second h) ∙ q))), λ u. refl)
 
-  not-asked : (k : ℕ) → actionQuestions n F ≡ suc k → Kept (refused (suc k))
+  not-asked : (k : ℕ) → actionQuestions n F ≡ suc k → Kept (nothingChosen (suc k))
   not-asked k e =
       refuses k (λ z. absurd (omega (arith, action-small n F)), λ u. absurd (omega (arith, u .0)))
 
-  -- whichever list is played, or neither
-  by-choice : actionQuestions n F ≡ 0 → (a b s : Bool) → matches n F vs ≡ a → matches n F ws ≡ b → ltb (length ws) (length vs) ≡ s → Kept (played a b s)
+  -- whichever list is preferred, or neither
+  by-choice : actionQuestions n F ≡ 0 → (a b s : Bool) → matches n F vs ≡ a → matches n F ws ≡ b → ltb (length ws) (length vs) ≡ s → Kept (preferred a b s)
   by-choice e true true true p q r = plays-second q (λ h. ltb-true (length ws) (length vs) r)
   by-choice e true true false p q r = plays-first p (λ h. ltb-false (length ws) (length vs) r)
   by-choice e true false s p q r = plays-first p (λ h. absurd (true≢false (sym h ∙ q)))
@@ -115,7 +112,7 @@ module _ (n : ℕ) (rows first second : List ℕ) where
   unfolding shorterReply shorterOf
   kept = go (actionQuestions n F) refl
     where
-      go : (k : ℕ) → actionQuestions n F ≡ k → Kept (unlessRefused k (played (matches n F vs) (matches n F ws) (ltb (length ws) (length vs))))
+      go : (k : ℕ) → actionQuestions n F ≡ k → Kept (chosenUnless k (preferred (matches n F vs) (matches n F ws) (ltb (length ws) (length vs))))
       go zero e = by-choice e (matches n F vs) (matches n F ws) (ltb (length ws) (length vs)) refl refl refl
       go (suc k) e = not-asked k e
 

@@ -15,29 +15,29 @@ use Rattle.shorter.specs.declared.Chosen.{Chosen}
 abbrev pub chosen : ℕ → Chosen
 chosen list = record { number = 0; list = list }
 
-abbrev pub refused : ℕ → Chosen
-refused number = record { number = number; list = 0 }
+abbrev pub nothingChosen : ℕ → Chosen
+nothingChosen number = record { number = number; list = 0 }
 
 -- whether the first list matches, whether the second does, and whether the second is shorter; 14 where neither matches
-abbrev pub played : Bool → Bool → Bool → Chosen
-played true true shorter = chosen (select 1 shorter 2)
-played true false shorter = chosen 1
-played false true shorter = chosen 2
-played false false shorter = refused 14
+abbrev pub preferred : Bool → Bool → Bool → Chosen
+preferred true true shorter = chosen (select 1 shorter 2)
+preferred true false shorter = chosen 1
+preferred false true shorter = chosen 2
+preferred false false shorter = nothingChosen 14
 
 unfoldable pub shorterOf : ℕ → List ℕ → List ℕ → List ℕ → Chosen
-shorterOf n F vs ws = played (matches n F vs) (matches n F ws) (ltb (length ws) (length vs))
+shorterOf n F vs ws = preferred (matches n F vs) (matches n F ws) (ltb (length ws) (length vs))
 
 -- the answer where every question of the action is passed, else the refusal
-abbrev pub unlessRefused : ℕ → Chosen → Chosen
-unlessRefused zero answer = answer
-unlessRefused (suc number) answer = refused (suc number)
+abbrev pub chosenUnless : ℕ → Chosen → Chosen
+chosenUnless zero answer = answer
+chosenUnless (suc number) answer = nothingChosen (suc number)
 
 -- questions 1 to 4 of the action, then 14
 unfoldable pub shorterReply : ℕ → List ℕ → List ℕ → List ℕ → Chosen
 shorterReply n rows first second =
     let F = rowsOfWords n rows in
-    unlessRefused (actionQuestions n F) (shorterOf n F (rowsOfWords n first) (rowsOfWords n second))
+    chosenUnless (actionQuestions n F) (shorterOf n F (rowsOfWords n first) (rowsOfWords n second))
 
 -- what comes back of the two lent lists: the first whole, the second whole, or nothing of the first
 unfoldable pub partOf : ℕ → List ℕ → List ℕ → List ℕ

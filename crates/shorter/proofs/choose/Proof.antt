@@ -11,7 +11,7 @@ use Rattle.symplectic.specs.Replies.{actionQuestions}
 use Rattle.symplectic.proofs.Arrays.{capped-is, loaded}
 use Rattle.symplectic.proofs.Questions.{passed-size, passed-count}
 use Rattle.shorter.specs.Shorter.{shorterOf}
-use Rattle.shorter.proofs.Played.{reply-refused, reply-passed}
+use Rattle.shorter.proofs.Choices.{reply-asked}
 use borrow.Author.Needs.{needs}
 use Rattle.shorter.proofs.choose.Statement.{statement}
 use Rattle.shorter.proofs.choose.Tie as tie
@@ -30,7 +30,7 @@ enum-told c = search needs
 returns : tie.Need-returns
 returns c =
     let s = c .before .before .before .before .before .before .args in
-    reply-refused (s .n) (s .rows .now) (s .first .now) (s .second .now) 0 (number (c .before .before) TooManyQubits 1 (search (needs, c .enum-told .given)) refl)
+    reply-asked (s .n) (s .rows .now) (s .first .now) (s .second .now) 1 (number (c .before .before) TooManyQubits 1 (search (needs, c .enum-told .given)) refl)
 
 enum-told-2 : tie.Need-enum-told-2
 enum-told-2 c = search needs
@@ -38,7 +38,7 @@ enum-told-2 c = search needs
 returns-2 : tie.Need-returns-2
 returns-2 c =
     let s = c .before .before .before .before .before .before .args in
-    reply-refused (s .n) (s .rows .now) (s .first .now) (s .second .now) 1 (number (c .before .before) WrongRowCount 2 (search (needs, c .enum-told2 .given)) refl)
+    reply-asked (s .n) (s .rows .now) (s .first .now) (s .second .now) 2 (number (c .before .before) WrongRowCount 2 (search (needs, c .enum-told2 .given)) refl)
 
 enum-told-3 : tie.Need-enum-told-3
 enum-told-3 c = search needs
@@ -46,7 +46,7 @@ enum-told-3 c = search needs
 returns-3 : tie.Need-returns-3
 returns-3 c =
     let s = c .before .before .before .before .before .before .args in
-    reply-refused (s .n) (s .rows .now) (s .first .now) (s .second .now) 2 (number (c .before .before) RowTooWide 3 (search (needs, c .enum-told3 .given)) refl)
+    reply-asked (s .n) (s .rows .now) (s .first .now) (s .second .now) 3 (number (c .before .before) RowTooWide 3 (search (needs, c .enum-told3 .given)) refl)
 
 enum-told-4 : tie.Need-enum-told-4
 enum-told-4 c = search needs
@@ -54,7 +54,7 @@ enum-told-4 c = search needs
 returns-4 : tie.Need-returns-4
 returns-4 c =
     let s = c .before .before .before .before .before .before .args in
-    reply-refused (s .n) (s .rows .now) (s .first .now) (s .second .now) 3 (number (c .before .before) NotSymplectic 4 (search (needs, c .enum-told4 .given)) refl)
+    reply-asked (s .n) (s .rows .now) (s .first .now) (s .second .now) 4 (number (c .before .before) NotSymplectic 4 (search (needs, c .enum-told4 .given)) refl)
 
 enum-told-5 : tie.Need-enum-told-5
 enum-told-5 c = search needs
@@ -75,7 +75,7 @@ returns-5 c =
     let same = loaded (l .result) (s .n) F size (passed-count (s .n) F passed) (l .ensures .0) (l .ensures .1) in
     c .shorter-of .ensures
     ∙ ap₂ (λ (k : ℕ) (G : List ℕ). shorterOf k G (rowsOfWords (s .n) (s .first .now)) (rowsOfWords (s .n) (s .second .now))) (capped-is (s .n) size) (same .1)
-    ∙ reply-passed (s .n) (s .rows .now) (s .first .now) (s .second .now) passed
+    ∙ reply-asked (s .n) (s .rows .now) (s .first .now) (s .second .now) 0 passed
 
 pub choose-spec : {M : Type 1} → statement M
 choose-spec =

@@ -10,7 +10,7 @@ use Rattle.blocks.specs.Words.{rowsOfWords}
 use Rattle.blocks.proofs.Values.{rows-count}
 use Rattle.symplectic.specs.Actions.{capped, matrix}
 use Rattle.symplectic.specs.Matches.{matches}
-use Rattle.shorter.proofs.Played.{shorter-second, first-matches, first-alone, second-alone, neither-matches}
+use Rattle.shorter.proofs.Choices.{shorter-second, first-matches, first-alone, second-alone, neither-matches}
 use borrow.Author.Needs.{needs}
 use Rattle.shorter.proofs.shorter_of.Statement.{statement}
 use Rattle.shorter.proofs.shorter_of.Tie as tie

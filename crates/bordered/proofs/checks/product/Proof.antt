@@ -10,8 +10,7 @@ use Rattle.binar.specs.inner.Blank.{blank}
 use lib.Seq.{take-all}
 use lib.ListN.{length, getD, take}
 use Prim.Native.Nat.{ℕ, _-_, _≤_, _<_}
-use mathlib.Core.List.{List}
-use mathlib.Core.Path.{_≡_, sym, ap, ap₂, _∙_}
+use mathlib.Core.Path.{_≡_, sym, ap, _∙_}
 use native.Mathlib.Omega.{arith}
 use borrow.Author.Needs.{needs}
 use Rattle.bordered.proofs.checks.product.Statement.{statement}

@@ -3,14 +3,13 @@
 use mathlib.Core.Path.{_≡_, refl, sym, ap, ap₂, _∙_}
 use mathlib.Core.Bool.{Bool, true, false}
 use mathlib.Core.List.{List}
-use Prim.Native.Nat.{ℕ, suc}
+use Prim.Native.Nat.{ℕ}
 use lib.Dec.{ltb}
 use lib.ListN.{length}
 use Rattle.blocks.specs.Words.{rowsOfWords}
 use Rattle.symplectic.specs.Replies.{actionQuestions}
 use Rattle.symplectic.specs.Matches.{matches}
-use Rattle.shorter.specs.declared.Chosen.{Chosen}
-use Rattle.shorter.specs.Shorter.{chosen, refused, played, unlessRefused, shorterOf, shorterReply}
+use Rattle.shorter.specs.Shorter.{chosen, nothingChosen, preferred, chosenUnless, shorterOf, shorterReply}
 
 -- ---- the choice
 
@@ -18,9 +17,9 @@ module _ (n : ℕ) (F vs ws : List ℕ) where
   abbrev shorter : Bool
   shorter = ltb (length ws) (length vs)
 
-  cases : (a b s : Bool) → matches n F vs ≡ a → matches n F ws ≡ b → shorter ≡ s → played a b s ≡ shorterOf n F vs ws
+  cases : (a b s : Bool) → matches n F vs ≡ a → matches n F ws ≡ b → shorter ≡ s → preferred a b s ≡ shorterOf n F vs ws
   unfolding shorterOf
-  cases a b s p q r = sym (ap₂ (λ x y. played x y shorter) p q ∙ ap (played a b) r)
+  cases a b s p q r = sym (ap₂ (λ x y. preferred x y shorter) p q ∙ ap (preferred a b) r)
 
   -- the second is shorter and matches
   pub shorter-second : ltb (length ws) (length vs) ≡ true → matches n F ws ≡ true → chosen 2 ≡ shorterOf n F vs ws
@@ -45,18 +44,14 @@ module _ (n : ℕ) (F vs ws : List ℕ) where
   pub second-alone : matches n F vs ≡ false → matches n F ws ≡ true → chosen 2 ≡ shorterOf n F vs ws
   second-alone p q = cases false true shorter p q refl
 
-  pub neither-matches : matches n F vs ≡ false → matches n F ws ≡ false → refused 14 ≡ shorterOf n F vs ws
+  pub neither-matches : matches n F vs ≡ false → matches n F ws ≡ false → nothingChosen 14 ≡ shorterOf n F vs ws
   neither-matches p q = cases false false shorter p q refl
 
 -- ---- the reply
 
-module _ (n : ℕ) (rows first second : List ℕ) where
-  pub reply-refused : (k : ℕ) → actionQuestions n (rowsOfWords n rows) ≡ suc k → refused (suc k) ≡ shorterReply n rows first second
-  unfolding shorterReply
-  reply-refused k e =
-      sym (ap (λ (q : ℕ). unlessRefused q (shorterOf n (rowsOfWords n rows) (rowsOfWords n first) (rowsOfWords n second))) e)
-
-  pub reply-passed : actionQuestions n (rowsOfWords n rows) ≡ 0 → shorterOf n (rowsOfWords n rows) (rowsOfWords n first) (rowsOfWords n second) ≡ shorterReply n rows first second
-  unfolding shorterReply
-  reply-passed e =
-      sym (ap (λ (q : ℕ). unlessRefused q (shorterOf n (rowsOfWords n rows) (rowsOfWords n first) (rowsOfWords n second))) e)
+-- by the number of the action's question that is answered no, 0 where all are passed
+pub reply-asked : (n : ℕ) (rows first second : List ℕ) (k : ℕ) → actionQuestions n (rowsOfWords n rows) ≡ k
+    → chosenUnless k (shorterOf n (rowsOfWords n rows) (rowsOfWords n first) (rowsOfWords n second)) ≡ shorterReply n rows first second
+unfolding shorterReply
+reply-asked n rows first second k e =
+    sym (ap (λ (q : ℕ). chosenUnless q (shorterOf n (rowsOfWords n rows) (rowsOfWords n first) (rowsOfWords n second))) e)
