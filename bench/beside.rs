@@ -6,7 +6,7 @@ use std::hint::black_box;
 mod clock;
 mod families;
 mod layers;
-#[allow(dead_code)] // layers are chosen by the minimal call alone
+#[allow(dead_code)] // layers are chosen by the minimal call, and the lists to rebuild are greedy ones
 mod ours;
 
 use clock::Clock;
@@ -21,14 +21,15 @@ extern "C" {
 }
 
 type Minimal = extern "C" fn(u64, *const u64, usize, u64, *mut u64, usize, &mut u64, &mut u64) -> u64;
-type Greedy = extern "C" fn(u64, *const u64, usize, *mut u64, usize, &mut u64) -> u64;
+type Listing = extern "C" fn(u64, *const u64, usize, *mut u64, usize, &mut u64) -> u64;
 
 /// What a call answers: the refusal, the count, the looks and the lent words.
 type Answer = (u64, u64, u64, [u64; ours::ROOM]);
 
 struct Library {
     minimal: Minimal,
-    greedy: Greedy,
+    greedy: Listing,
+    rebuild: Listing,
 }
 
 impl Library {
@@ -46,7 +47,8 @@ impl Library {
         unsafe {
             Library {
                 minimal: std::mem::transmute::<*mut c_void, Minimal>(symbol("turnlist_minimal")),
-                greedy: std::mem::transmute::<*mut c_void, Greedy>(symbol("turnlist_greedy")),
+                greedy: std::mem::transmute::<*mut c_void, Listing>(symbol("turnlist_greedy")),
+                rebuild: std::mem::transmute::<*mut c_void, Listing>(symbol("turnlist_rebuild")),
             }
         }
     }
@@ -60,6 +62,12 @@ impl Library {
     fn greedy(&self, n: usize, rows: &[u64]) -> Answer {
         let (mut count, mut out) = (0, [0; ours::ROOM]);
         let number = (self.greedy)(n as u64, rows.as_ptr(), rows.len(), out.as_mut_ptr(), out.len(), &mut count);
+        (number, count, 0, out)
+    }
+
+    fn rebuild(&self, n: usize, list: &[u64]) -> Answer {
+        let (mut count, mut out) = (0, [0; ours::ROOM]);
+        let number = (self.rebuild)(n as u64, list.as_ptr(), list.len(), out.as_mut_ptr(), 2 * n, &mut count);
         (number, count, 0, out)
     }
 }
@@ -81,21 +89,33 @@ fn chosen(n: usize, rows: fn(usize, u64) -> Vec<u64>) -> Vec<Vec<u64>> {
     (1..).map(|seed| rows(n, seed)).filter(within).take(LAYERS).collect()
 }
 
-/// A line for each family: the ratio of the mean times, that of the worst layer, and both times.
-fn table(title: &str, libraries: &[Library; 2], call: fn(&Library, usize, &[u64]) -> Answer) {
+fn as_it_is(_: usize, rows: Vec<u64>) -> Vec<u64> {
+    rows
+}
+
+fn greedy_list(n: usize, rows: Vec<u64>) -> Vec<u64> {
+    let mut out = [0; ours::ROOM];
+    let (number, count) = ours::greedy(n, &rows, &mut out);
+    assert_eq!(number, 0, "the greedy call is refused");
+    out[..count].to_vec()
+}
+
+/// A line for each family: the ratio of the mean times, that of the worst layer, and both times. A call takes what is made of
+/// a layer's rows.
+fn table(title: &str, libraries: &[Library; 2], made: fn(usize, Vec<u64>) -> Vec<u64>, call: fn(&Library, usize, &[u64]) -> Answer) {
     println!("{title}");
     println!("{:>9}{:>8}  {:<11}{:>9}{:>9}", "new / old", "worst", "layers", "new", "old");
     for (name, widths, rows) in families::FAMILIES {
         for &n in widths {
-            let of = chosen(n, rows);
+            let of: Vec<Vec<u64>> = chosen(n, rows).into_iter().map(|rows| made(n, rows)).collect();
             let mut clocks: Vec<[Clock; 2]> = of.iter().map(|_| [Clock::new(), Clock::new()]).collect();
-            for rows in &of {
-                assert_eq!(call(&libraries[0], n, rows), call(&libraries[1], n, rows), "the answers differ");
+            for words in &of {
+                assert_eq!(call(&libraries[0], n, words), call(&libraries[1], n, words), "the answers differ");
             }
             for round in 0..ROUNDS {
-                for (rows, clocks) in of.iter().zip(&mut clocks) {
+                for (words, clocks) in of.iter().zip(&mut clocks) {
                     for side in [round % 2, 1 - round % 2] {
-                        deeper(round, &mut || clocks[side].sample(|| call(&libraries[side], n, rows)));
+                        deeper(round, &mut || clocks[side].sample(|| call(&libraries[side], n, words)));
                     }
                 }
             }
@@ -110,7 +130,9 @@ fn table(title: &str, libraries: &[Library; 2], call: fn(&Library, usize, &[u64]
 fn main() {
     let paths: Vec<String> = std::env::args().skip(1).collect();
     let libraries = [Library::open(&paths[0]), Library::open(&paths[1])];
-    table("the minimal call, microseconds", &libraries, Library::minimal);
+    table("the minimal call, microseconds", &libraries, as_it_is, Library::minimal);
     println!();
-    table("the greedy call, microseconds", &libraries, Library::greedy);
+    table("the greedy call, microseconds", &libraries, as_it_is, Library::greedy);
+    println!();
+    table("the rebuild of the greedy list, microseconds", &libraries, greedy_list, Library::rebuild);
 }

@@ -14,10 +14,21 @@ extern "C" {
     ) -> u64;
     fn turnlist_greedy(n: u64, rows: *const u64, row_count: usize, out: *mut u64, out_len: usize, count: *mut u64) -> u64;
     fn turnlist_fixed_space(n: u64, rows: *const u64, row_count: usize, out: *mut u64, out_len: usize, count: *mut u64) -> u64;
+    fn turnlist_rebuild(n: u64, vectors: *const u64, vector_count: usize, out: *mut u64, out_len: usize, count: *mut u64) -> u64;
+    fn turnlist_shorter(
+        n: u64,
+        rows: *const u64,
+        row_count: usize,
+        first: *const u64,
+        first_len: usize,
+        second: *const u64,
+        second_len: usize,
+        chosen: *mut u64,
+    ) -> u64;
     fn turnlist_gates(n: u64, gates: *const u8, byte_count: usize, out: *mut u64, out_len: usize, count: *mut u64) -> u64;
 }
 
-/// Words enough for either list and for a fixed space.
+/// Words enough for either list, for a fixed space and for an action.
 pub const ROOM: usize = 130;
 
 /// The refusal, how many vectors were listed, and the looks.
@@ -41,6 +52,22 @@ pub fn fixed_space(n: usize, rows: &[u64], out: &mut [u64; ROOM]) -> (u64, usize
     let mut count = 0;
     let number = unsafe { turnlist_fixed_space(n as u64, rows.as_ptr(), rows.len(), out.as_mut_ptr(), ROOM, &mut count) };
     (number, count as usize)
+}
+
+/// The refusal, and how many rows the product has.
+pub fn rebuild(n: usize, list: &[u64], out: &mut [u64; ROOM]) -> (u64, usize) {
+    let mut count = 0;
+    let number = unsafe { turnlist_rebuild(n as u64, list.as_ptr(), list.len(), out.as_mut_ptr(), 2 * n, &mut count) };
+    (number, count as usize)
+}
+
+/// The refusal, and which list is chosen.
+pub fn shorter(n: usize, rows: &[u64], first: &[u64], second: &[u64]) -> (u64, u64) {
+    let mut chosen = 0;
+    let (a, b) = (first.as_ptr(), second.as_ptr());
+    let number =
+        unsafe { turnlist_shorter(n as u64, rows.as_ptr(), rows.len(), a, first.len(), b, second.len(), &mut chosen) };
+    (number, chosen)
 }
 
 /// The rows of a gate sequence.

@@ -1,4 +1,5 @@
-/* A layer by its gates, its turn lists, the action rebuilt from each, its fixed space, and a refusal. Run it by examples/run-c. */
+/* A layer by its gates, its turn lists, the action rebuilt from each, its fixed space, the shorter list, and two refusals.
+ * Run it by examples/run-c. */
 #include "turnlist.h"
 
 #include <inttypes.h>
@@ -25,6 +26,8 @@ static const char *const meanings[] = {
     "no such gate",
     "a qubit that is not there",
     "two equal qubits",
+    NULL, NULL, /* 12 and 13 are refusals of a job file, which no call here takes */
+    "neither list has the action for its product",
 };
 
 /* The vectors as letters, qubit 0 first. */
@@ -57,28 +60,38 @@ static int answered(uint64_t reply)
 
 int main(void)
 {
-    uint64_t action[ROWS], minimal[MINIMAL_WORDS], greedy[GREEDY_WORDS], fixed[ROWS], count, looks;
+    uint64_t action[ROWS], minimal[MINIMAL_WORDS], greedy[GREEDY_WORDS], fixed[ROWS];
+    uint64_t count, minimal_count, greedy_count, looks, chosen;
 
     if (!answered(turnlist_gates(N, layer, sizeof layer, action, ROWS, &count)))
         return 1;
     printf("layer on %d qubits: H 0, CX 1 2\n", N);
 
-    if (!answered(turnlist_minimal(N, action, ROWS, 1000000, minimal, MINIMAL_WORDS, &count, &looks)))
+    if (!answered(turnlist_minimal(N, action, ROWS, 1000000, minimal, MINIMAL_WORDS, &minimal_count, &looks)))
         return 1;
-    printf("minimal: %" PRIu64 " turns, %" PRIu64 " looks:", count, looks);
-    print_letters(minimal, count);
-    print_rebuilt("minimal", minimal, count, action);
+    printf("minimal: %" PRIu64 " turns, %" PRIu64 " looks:", minimal_count, looks);
+    print_letters(minimal, minimal_count);
+    print_rebuilt("minimal", minimal, minimal_count, action);
 
-    if (!answered(turnlist_greedy(N, action, ROWS, greedy, GREEDY_WORDS, &count)))
+    if (!answered(turnlist_greedy(N, action, ROWS, greedy, GREEDY_WORDS, &greedy_count)))
         return 1;
-    printf("greedy: %" PRIu64 " turns:", count);
-    print_letters(greedy, count);
-    print_rebuilt("greedy", greedy, count, action);
+    printf("greedy: %" PRIu64 " turns:", greedy_count);
+    print_letters(greedy, greedy_count);
+    print_rebuilt("greedy", greedy, greedy_count, action);
 
     if (!answered(turnlist_fixed_space(N, action, ROWS, fixed, ROWS, &count)))
         return 1;
     printf("fixed space: %" PRIu64 " vectors:", count);
     print_letters(fixed, count);
+
+    if (!answered(turnlist_shorter(N, action, ROWS, greedy, (size_t)greedy_count, minimal, (size_t)minimal_count, &chosen)))
+        return 1;
+    count = chosen == 1 ? greedy_count : minimal_count;
+    printf("shorter of the greedy and the minimal list: %" PRIu64 " turns:", count);
+    print_letters(chosen == 1 ? greedy : minimal, count);
+
+    printf("with the last turn of each left off: ");
+    answered(turnlist_shorter(N, action, ROWS, greedy, (size_t)greedy_count - 1, minimal, (size_t)minimal_count - 1, &chosen));
 
     printf("minimal with one look too few: ");
     answered(turnlist_minimal(N, action, ROWS, looks - 1, minimal, MINIMAL_WORDS, &count, &looks));

@@ -1,4 +1,5 @@
-"""A layer by its gates, its turn lists, the action rebuilt from each, its fixed space, and a refusal. Run it by examples/run-python."""
+"""A layer by its gates, its turn lists, the action rebuilt from each, its fixed space, the shorter list, and two refusals.
+Run it by examples/run-python."""
 import sys
 
 from turnlist import CX, H, Refusal, Turnlist
@@ -30,6 +31,14 @@ def main(path):
 
     fixed = library.fixed_space(N, action)
     print(f"fixed space: {len(fixed)} vectors: {letters(fixed)}")
+
+    shorter = library.shorter(N, action, greedy, minimal)
+    print(f"shorter of the greedy and the minimal list: {len(shorter)} turns: {letters(shorter)}")
+
+    try:
+        library.shorter(N, action, greedy[:-1], minimal[:-1])
+    except Refusal as refusal:
+        print(f"with the last turn of each left off: {refusal}")
 
     try:
         library.minimal(N, action, looks - 1)

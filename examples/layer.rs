@@ -1,4 +1,5 @@
-//! A layer by its gates, its turn lists, the action rebuilt from each, its fixed space, and a refusal. Run it by examples/run-rust.
+//! A layer by its gates, its turn lists, the action rebuilt from each, its fixed space, the shorter list, and two refusals.
+//! Run it by examples/run-rust.
 #[allow(dead_code)] // not every gate is used here
 mod turnlist;
 
@@ -32,6 +33,14 @@ fn main() -> Result<(), Refusal> {
 
     let fixed = turnlist::fixed_space(N, &action)?;
     println!("fixed space: {} vectors: {}", fixed.len(), letters(&fixed));
+
+    let shorter = turnlist::shorter(N, &action, &greedy, &minimal.turns)?;
+    println!("shorter of the greedy and the minimal list: {} turns: {}", shorter.len(), letters(shorter));
+
+    let [first, second] = [&greedy, &minimal.turns].map(|list| &list[..list.len() - 1]);
+    if let Err(refusal) = turnlist::shorter(N, &action, first, second) {
+        println!("with the last turn of each left off: {refusal}");
+    }
 
     if let Err(refusal) = turnlist::minimal(N, &action, minimal.looks - 1) {
         println!("minimal with one look too few: {refusal}");

@@ -1,5 +1,5 @@
 """The calls of include/turnlist.h, from a shared object. Lists of numbers go in; an answer is a list of as many words as were
-written, and a refusal is raised."""
+written, or one of the lists itself, and a refusal is raised."""
 import ctypes
 
 H, S, ROOT_X, CX, CZ, SWAP = range(6)
@@ -17,6 +17,8 @@ MEANINGS = (
     "no such gate",
     "a qubit that is not there",
     "two equal qubits",
+    None, None,  # 12 and 13 are refusals of a job file, which no call here takes
+    "neither list has the action for its product",
 )
 WORD = ctypes.c_uint64
 WORDS = ctypes.POINTER(WORD)
@@ -56,6 +58,7 @@ class Turnlist:
         self._greedy = self._call(library.turnlist_greedy, [WORD, WORDS, LENGTH, *lending])
         self._fixed_space = self._call(library.turnlist_fixed_space, [WORD, WORDS, LENGTH, *lending])
         self._rebuild = self._call(library.turnlist_rebuild, [WORD, WORDS, LENGTH, *lending])
+        self._shorter = self._call(library.turnlist_shorter, [WORD, *[WORDS, LENGTH] * 3, WORDS])
         self._gates = self._call(library.turnlist_gates, [WORD, BYTES, LENGTH, *lending])
 
     @staticmethod
@@ -64,12 +67,15 @@ class Turnlist:
         return function
 
     @staticmethod
-    def _written(call, room, *arguments, told=()):
-        """Lends room for an answer; what was written of it."""
-        out, count = (WORD * room)(), WORD()
-        number = call(*arguments, out, room, ctypes.byref(count), *told)
+    def _answered(number):
+        """Raises the refusal of a number, if it is one."""
         if number:
             raise Refusal(number)
+
+    def _written(self, call, room, *arguments, told=()):
+        """Lends room for an answer; what was written of it."""
+        out, count = (WORD * room)(), WORD()
+        self._answered(call(*arguments, out, room, ctypes.byref(count), *told))
         return out[: count.value]
 
     def minimal(self, n, rows, budget):
@@ -89,6 +95,13 @@ class Turnlist:
     def rebuild(self, n, vectors):
         """The 2n rows of the product of any list."""
         return self._written(self._rebuild, 2 * min(n, MOST_QUBITS), word(n), words(vectors), len(vectors))
+
+    def shorter(self, n, rows, first, second):
+        """Of two lists the shorter one whose product is the action, the first at equal length: the list itself."""
+        chosen = WORD()
+        lists = words(first), len(first), words(second), len(second)
+        self._answered(self._shorter(word(n), words(rows), len(rows), *lists, ctypes.byref(chosen)))
+        return first if chosen.value == 1 else second
 
     def gates(self, n, gates):
         """The 2n rows of the action of a sequence of gates, each its number, a and b; gates on one qubit do not read b."""

@@ -1,5 +1,5 @@
 //! The calls of `include/turnlist.h` as safe functions. Slices go in; the words that a call writes are lent from here, and
-//! an answer is a `Vec` of as many words as were written.
+//! an answer is a `Vec` of as many words as were written, or one of the slices itself.
 use std::fmt;
 
 pub const H: u8 = 0;
@@ -34,10 +34,11 @@ pub enum Refusal {
     UnknownGate,
     QubitTooHigh,
     EqualQubits,
+    NeitherMatches = 14,
 }
 
 impl Refusal {
-    const ALL: [Refusal; 11] = [
+    const ALL: [Refusal; 12] = [
         Refusal::TooManyQubits,
         Refusal::WrongRowCount,
         Refusal::RowTooWide,
@@ -49,7 +50,13 @@ impl Refusal {
         Refusal::UnknownGate,
         Refusal::QubitTooHigh,
         Refusal::EqualQubits,
+        Refusal::NeitherMatches,
     ];
+
+    /// The refusal that a call returns this number for.
+    fn of(number: u64) -> Refusal {
+        Refusal::ALL.into_iter().find(|refusal| *refusal as u64 == number).expect("a refusal of turnlist.h")
+    }
 
     pub fn meaning(self) -> &'static str {
         match self {
@@ -64,6 +71,7 @@ impl Refusal {
             Refusal::UnknownGate => "no such gate",
             Refusal::QubitTooHigh => "a qubit that is not there",
             Refusal::EqualQubits => "two equal qubits",
+            Refusal::NeitherMatches => "neither list has the action for its product",
         }
     }
 }
@@ -117,6 +125,18 @@ pub fn rebuild(n: u64, vectors: &[u64]) -> Result<Vec<u64>, Refusal> {
     written(reply, &out, count)
 }
 
+/// Of two lists the shorter one whose product is the action, the first at equal length: the lent slice itself.
+pub fn shorter<'a>(n: u64, rows: &[u64], first: &'a [u64], second: &'a [u64]) -> Result<&'a [u64], Refusal> {
+    let mut chosen = 0;
+    let (first_at, second_at) = (first.as_ptr(), second.as_ptr());
+    // SAFETY: as in `minimal`.
+    let reply = unsafe {
+        turnlist_shorter(n, rows.as_ptr(), rows.len(), first_at, first.len(), second_at, second.len(), &mut chosen)
+    };
+    answered(reply)?;
+    Ok(if chosen == 1 { first } else { second })
+}
+
 /// The 2n rows of the action of a sequence of gates.
 pub fn gates(n: u64, gates: &[Gate]) -> Result<Vec<u64>, Refusal> {
     let bytes = gates.as_flattened();
@@ -134,12 +154,18 @@ fn row_count(n: u64) -> usize {
     if n <= MOST_QUBITS as u64 { 2 * n as usize } else { 0 }
 }
 
+/// Whether a call answered, or the refusal.
+fn answered(reply: u64) -> Result<(), Refusal> {
+    match reply {
+        0 => Ok(()),
+        number => Err(Refusal::of(number)),
+    }
+}
+
 /// What an answer wrote, or the refusal.
 fn written(reply: u64, out: &[u64], count: u64) -> Result<Vec<u64>, Refusal> {
-    match reply {
-        0 => Ok(out[..count as usize].to_vec()),
-        number => Err(Refusal::ALL[number as usize - 1]),
-    }
+    answered(reply)?;
+    Ok(out[..count as usize].to_vec())
 }
 
 extern "C" {
@@ -156,5 +182,15 @@ extern "C" {
     fn turnlist_greedy(n: u64, rows: *const u64, row_count: usize, out: *mut u64, out_len: usize, count: *mut u64) -> u64;
     fn turnlist_fixed_space(n: u64, rows: *const u64, row_count: usize, out: *mut u64, out_len: usize, count: *mut u64) -> u64;
     fn turnlist_rebuild(n: u64, vectors: *const u64, vector_count: usize, out: *mut u64, out_len: usize, count: *mut u64) -> u64;
+    fn turnlist_shorter(
+        n: u64,
+        rows: *const u64,
+        row_count: usize,
+        first: *const u64,
+        first_len: usize,
+        second: *const u64,
+        second_len: usize,
+        chosen: *mut u64,
+    ) -> u64;
     fn turnlist_gates(n: u64, gates: *const u8, byte_count: usize, out: *mut u64, out_len: usize, count: *mut u64) -> u64;
 }

@@ -12,14 +12,15 @@
  * Each call asks its questions in the order of its refusals below, and returns the number of the first one answered no.
  *
  *   - 0: an answer. *count says how many words stand at the start of out, and the words past them are unchanged.
- *   - Any other number: a refusal. Nothing is listed, and every lent word is unchanged, *count and *looks too.
+ *     turnlist_shorter lists nothing: *chosen says which of the lent lists is the answer.
+ *   - Any other number: a refusal. Nothing is listed, and every lent word is unchanged, *count, *looks and *chosen too.
  *
  * What the caller owes, and nothing checks:
  *
  *   - Each pointer is aligned, and valid for as many words (gates: bytes) as the length behind it says. Where
- *     that length is 0 the pointer is not followed, and may be null. count and looks are never null.
- *   - What is lent for writing (out, count, looks) overlaps nothing else that is lent, and no other thread touches it
- *     during the call. What is lent for reading is not written during the call.
+ *     that length is 0 the pointer is not followed, and may be null. count, looks and chosen are never null.
+ *   - What is lent for writing (out, count, looks, chosen) overlaps nothing else that is lent, and no other thread
+ *     touches it during the call. What is lent for reading is not written during the call, and may overlap.
  *   - The thread has stack to spare: 512 KiB are enough for turnlist_minimal, 16 KiB for the others. tests/stack/run
  *     measures what they take.
  *
@@ -42,7 +43,7 @@ extern "C" {
 #define TURNLIST_MINIMAL_WORDS(n) (2 * (n) + 1)
 #define TURNLIST_GREEDY_WORDS(n) (4 * (n) + 2)
 
-/* What a call returns. */
+/* What a call returns. 12 and 13 are refusals of a job file, which no call here takes. */
 enum turnlist_reply {
     TURNLIST_ANSWERED = 0,
     TURNLIST_TOO_MANY_QUBITS = 1,  /* n is more than 32 */
@@ -55,7 +56,8 @@ enum turnlist_reply {
     TURNLIST_VECTOR_TOO_WIDE = 8,  /* a vector has a bit from 2n up */
     TURNLIST_UNKNOWN_GATE = 9,     /* a gate number above 5 */
     TURNLIST_QUBIT_TOO_HIGH = 10,  /* a qubit that is not below n */
-    TURNLIST_EQUAL_QUBITS = 11     /* the two qubits of a gate are equal */
+    TURNLIST_EQUAL_QUBITS = 11,    /* the two qubits of a gate are equal */
+    TURNLIST_NEITHER_MATCHES = 14  /* neither list has the action for its product */
 };
 
 /* The gates that turnlist_gates knows. */
@@ -97,6 +99,15 @@ uint64_t turnlist_fixed_space(uint64_t n, const uint64_t *rows, size_t row_count
  * Wants exactly 2n output words. Refuses with 1, 2 (of the output words), 8. */
 uint64_t turnlist_rebuild(uint64_t n, const uint64_t *vectors, size_t vector_count,
                           uint64_t *out, size_t out_len, uint64_t *count);
+
+/* Of two lists the shorter one whose product is the action: *chosen is 1 for the first, 2 for the second.
+ *
+ * A list matches if no vector of it has a bit from 2n up and its product is the action. Where both match, the shorter
+ * is chosen, and the first at equal length; where one does, that one. Zero vectors count towards the length.
+ *
+ * Wants 2n rows. Refuses with 1 to 4, then with 14 if neither list matches. */
+uint64_t turnlist_shorter(uint64_t n, const uint64_t *rows, size_t row_count, const uint64_t *first, size_t first_len,
+                          const uint64_t *second, size_t second_len, uint64_t *chosen);
 
 /* The action of a sequence of gates: its 2n rows, and *count is 2n.
  *

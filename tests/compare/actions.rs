@@ -1,7 +1,9 @@
-//! All calls on one action: the minimal list at several budgets, the greedy list, both lists rebuilt, and the fixed space.
+//! All calls on one action: the minimal list at several budgets, the greedy list, both lists rebuilt, the fixed space, and the
+//! shorter of two lists.
 use crate::check::Checker;
-use crate::fixed::flaw;
+use crate::fixed;
 use crate::library::{Call, Question};
+use crate::shorter::{self, reply, Maker};
 use crate::source::Listed;
 use crate::words::residue_rank;
 
@@ -26,6 +28,7 @@ impl Sample<'_> {
         let greedy = check.call(self.family, &question).list().to_vec();
         self.rebuild(check, &greedy);
         let fixed = self.fixed_space(check);
+        self.shorter(check, minimal.as_ref().map_or(&greedy, |(list, _)| list), &greedy);
         let (minimal, looks) = minimal?;
         Some(Listed { n: self.n, rows: self.rows.to_vec(), minimal, looks, greedy, fixed })
     }
@@ -73,9 +76,21 @@ impl Sample<'_> {
     fn fixed_space(&self, check: &mut Checker) -> Vec<u64> {
         let question = Question::of_words(Call::FixedSpace, self.n as u64, self.rows, 2 * self.n + self.spare);
         let list = check.call(self.family, &question).list().to_vec();
-        let wrong = flaw(self.n, self.rows, &list);
+        let wrong = fixed::flaw(self.n, self.rows, &list);
         check.require(wrong.is_none(), &question, wrong.unwrap_or_default());
         list
+    }
+
+    /// The choice from lists made of the minimal one (if it is not known, of the greedy one) and the greedy one.
+    fn shorter(&self, check: &mut Checker, minimal: &[u64], greedy: &[u64]) {
+        let mut maker = Maker::new(self.n, check.tally(self.family).actions);
+        for (first, second, wanted) in maker.pairs(minimal, greedy) {
+            let question = Question::of_lists(self.n as u64, self.rows, &first, &second);
+            let got = reply(&check.call(self.family, &question));
+            let wrong = shorter::flaw(&question, got);
+            check.require(wrong.is_none(), &question, wrong.unwrap_or_default());
+            check.require(got == wanted, &question, "not the reply that the lists are made for");
+        }
     }
 
     fn rebuild(&self, check: &mut Checker, list: &[u64]) {

@@ -20,7 +20,7 @@ pub struct Checker {
     tallies: Vec<(&'static str, Tally)>,
     pub calls: u64,
     pub differ: u64,
-    refusals: [u64; 12],
+    refusals: [u64; 15],
     plant: Option<u64>,
     quiet: bool,
 }
@@ -33,6 +33,7 @@ pub fn expected(question: &Question) -> Seen {
         Call::Greedy => model::greedy(n, words, out),
         Call::FixedSpace => model::fixed_space(n, words, out),
         Call::Rebuild => model::rebuild(n, words, out),
+        Call::Shorter => return expected_choice(question),
         Call::Gates => model::gates(n, &question.bytes, out),
     };
     let (list, looks) = match reply {
@@ -48,12 +49,24 @@ pub fn expected(question: &Question) -> Seen {
     seen
 }
 
+/// The same of the call that lists nothing.
+fn expected_choice(question: &Question) -> Seen {
+    let [first, second] = &question.lists;
+    match model::shorter(question.n, &question.words, first, second) {
+        Err(number) => Seen::untouched(number, question.out),
+        Ok(chosen) => Seen { chosen, ..Seen::untouched(0, question.out) },
+    }
+}
+
 /// What the model and the library say differently.
 fn differences(want: &Seen, seen: &Seen) -> String {
     let mut text = Vec::new();
-    for (name, model, library) in
-        [("number", want.number, seen.number), ("count", want.count, seen.count), ("looks", want.looks, seen.looks)]
-    {
+    for (name, model, library) in [
+        ("number", want.number, seen.number),
+        ("count", want.count, seen.count),
+        ("looks", want.looks, seen.looks),
+        ("chosen", want.chosen, seen.chosen),
+    ] {
         if model != library {
             text.push(format!("{name} {model:#x} by the model, {library:#x} by the library"));
         }
@@ -70,8 +83,16 @@ fn differences(want: &Seen, seen: &Seen) -> String {
     text.join("\n  ")
 }
 
+/// Words to print, of long lists the first.
+fn shown(words: &[u64]) -> String {
+    let (first, more) = words.split_at(words.len().min(200));
+    let more = if more.is_empty() { String::new() } else { format!(" and {} more", more.len()) };
+    format!("{first:x?}{more}")
+}
+
 impl Checker {
-    /// The count of the call whose number is planted is damaged; a quiet checker counts the differences and prints none.
+    /// The count, or the choice, of the call whose number is planted is damaged; a quiet checker counts the differences and
+    /// prints none.
     pub fn new(plant: Option<u64>, quiet: bool) -> Checker {
         Checker { plant, quiet, ..Checker::default() }
     }
@@ -94,7 +115,7 @@ impl Checker {
         let mut seen = answer(question, spoil);
         self.calls += 1;
         if self.plant == Some(self.calls) {
-            seen.count ^= 1;
+            *(if question.call == Call::Shorter { &mut seen.chosen } else { &mut seen.count }) ^= 1;
         }
         let band = BANDS.iter().position(|(last, _)| question.n <= *last).unwrap_or(BANDS.len() - 1);
         self.tally(family).calls[band] += 1;
@@ -115,8 +136,10 @@ impl Checker {
     fn report(&mut self, question: &Question, text: &str) {
         self.differ += 1;
         if self.differ <= 3 && !self.quiet {
-            let Question { call, n, words, bytes, out } = question;
-            println!("differs: {call:?}, n = {n}, {out} output words, words {words:x?}, bytes {bytes:x?}\n  {text}\n");
+            let Question { call, n, words, bytes, lists, out } = question;
+            let [words, first, second] = [words, &lists[0], &lists[1]].map(|words| shown(words));
+            print!("differs: {call:?}, n = {n}, {out} output words, words {words}, bytes {bytes:x?}");
+            println!(", lists {first} and {second}\n  {text}\n");
         }
     }
 
@@ -133,7 +156,9 @@ impl Checker {
         for (family, t) in self.tallies.iter().filter(|(_, t)| t.actions > 0) {
             println!("{family:<20}{:>9}{:>14}{:>8}{:>12}", t.actions, t.extra_turn, t.spent, t.most_looks);
         }
-        let counts: Vec<String> = self.refusals.iter().enumerate().map(|(k, calls)| format!("{k}: {calls}")).collect();
+        // 12 and 13 are the job file's
+        let of_calls = self.refusals.iter().enumerate().filter(|(k, _)| ![12, 13].contains(k));
+        let counts: Vec<String> = of_calls.map(|(k, calls)| format!("{k}: {calls}")).collect();
         println!("\ncalls by answer (0) or refusal: {}", counts.join(", "));
     }
 }

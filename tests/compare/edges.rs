@@ -1,12 +1,14 @@
 //! Lengths, widths and damage: every refusal before the search, alone and together with others.
 use crate::check::Checker;
 use crate::layers::{Family, Layers, Random};
-use crate::library::{Call, Question};
+use crate::library::{choice_of_parts, Call, Question};
+use crate::shorter::{reply, Maker};
+use crate::words::{identity, product};
 
 /// Enough for every search here that is not meant to be refused, and no more than a moment.
 const BUDGET: u64 = 2_000;
 
-/// The calls that take an action.
+/// The calls that take an action and list words.
 fn action_calls() -> [Call; 3] {
     [Call::Minimal { budget: BUDGET }, Call::Greedy, Call::FixedSpace]
 }
@@ -14,6 +16,11 @@ fn action_calls() -> [Call; 3] {
 /// Those, and a rebuild of the rows.
 fn word_calls() -> [Call; 4] {
     [Call::Minimal { budget: BUDGET }, Call::Greedy, Call::FixedSpace, Call::Rebuild]
+}
+
+/// Up to this many turns, none of them zero.
+fn turns(random: &mut Random, n: usize, most: usize) -> Vec<u64> {
+    (0..most).map(|_| random.vector(n)).filter(|v| *v != 0).collect()
 }
 
 fn around(length: usize) -> Vec<usize> {
@@ -42,6 +49,31 @@ pub fn lengths(check: &mut Checker, layers: &mut Layers) {
         for out in around(2 * n) {
             check.call("lengths", &Question::of_gates(n as u64, &circuit(&mut layers.random, n, 5), out));
         }
+        let list = turns(&mut layers.random, n, 5);
+        for count in [around(2 * n), vec![63, 64, 65, 66, 130]].concat() {
+            let mut rows = product(n, &list);
+            rows.resize(count, 0);
+            for [first, second] in [[&list, &list], [&list, &rows], [&rows, &list]] {
+                check.call("lengths", &Question::of_lists(n as u64, &rows, first, second));
+            }
+        }
+    }
+}
+
+/// Lists of zeros beside the identity: the shorter is chosen, the first at equal length. Beside another action neither
+/// matches.
+pub fn list_lengths(check: &mut Checker) {
+    let lengths = [0, 1, 2, 63, 64, 65, 255, 256, 257, 1_000, 65_536, 65_537];
+    for (n, a, b) in [0, 1, 5].into_iter().flat_map(|n| lengths.map(|a| lengths.map(|b| (n, a, b)))).flatten() {
+        let (first, second) = (vec![0; a], vec![0; b]);
+        let question = Question::of_lists(n as u64, &identity(n), &first, &second);
+        let got = reply(&check.call("lengths", &question));
+        check.require(got == if a <= b { 1 } else { 2 }, &question, "not the shorter");
+        if n > 0 {
+            let question = Question::of_lists(n as u64, &product(n, &[1]), &first, &second);
+            let got = reply(&check.call("lengths", &question));
+            check.require(got == 14, &question, "zeros changed something");
+        }
     }
 }
 
@@ -58,6 +90,8 @@ pub fn widths(check: &mut Checker) {
                 }
             }
             check.call("widths past 32", &Question::of_gates(n, &[0, 0, 0, 9, 9, 9], count));
+            check.call("widths past 32", &Question::of_lists(n, &rows, &[], &[]));
+            check.call("widths past 32", &Question::of_lists(n, &rows, &rows, &[0, 1 << 63]));
         }
     }
 }
@@ -84,6 +118,29 @@ pub fn wide_words(check: &mut Checker, layers: &mut Layers) {
     }
 }
 
+/// The same where a list is to be chosen: a wide row is refused, and a list with a wide vector does not match.
+pub fn wide_lists(check: &mut Checker, random: &mut Random) {
+    for n in 1..32usize {
+        let list = [turns(random, n, 8), vec![1, 2, 3]].concat();
+        for bit in 2 * n..64 {
+            let (mut rows, mut wide) = (product(n, &list), list.clone());
+            wide[random.below(list.len())] |= 1 << bit;
+            let (longer, alone) = ([&list[..], &[0]].concat(), [&list[..], &[1 << bit]].concat());
+            for (first, second, wanted) in
+                [(&wide, &longer, 2), (&longer, &wide, 1), (&alone, &wide, 14), (&longer, &alone, 1)]
+            {
+                let question = Question::of_lists(n as u64, &rows, first, second);
+                let got = reply(&check.call("wide words", &question));
+                check.require(got == wanted, &question, "not the list without a wide vector");
+            }
+            rows[random.below(2 * n)] |= 1 << bit;
+            let question = Question::of_lists(n as u64, &rows, &list, &rows);
+            let number = check.call("wide words", &question).number;
+            check.require(number == 3, &question, "a word with a bit from 2n up passed");
+        }
+    }
+}
+
 /// A symplectic action with one row made zero or a copy of another, which is never symplectic, or with one bit changed.
 pub fn damaged_rows(check: &mut Checker, layers: &mut Layers) {
     for n in 1..=32usize {
@@ -101,6 +158,9 @@ pub fn damaged_rows(check: &mut Checker, layers: &mut Layers) {
                 let number = check.call("damaged rows", &question).number;
                 check.require(!sure || number == 4, &question, "an action that is not symplectic passed");
             }
+            let question = Question::of_lists(n as u64, &rows, &[], &rows);
+            let number = check.call("damaged rows", &question).number;
+            check.require(!sure || number == 4, &question, "an action that is not symplectic passed");
         }
     }
 }
@@ -116,9 +176,11 @@ fn damage(random: &mut Random, rows: &mut [u64]) {
 pub fn several(check: &mut Checker, layers: &mut Layers, samples: usize) {
     for _ in 0..samples {
         let n = 1 + layers.random.below(32);
-        let call = word_calls()[layers.random.below(4)];
-        let (question, planted) =
-            if call == Call::Rebuild { several_rebuild(layers, n) } else { several_rows(layers, n, call) };
+        let (question, planted) = match word_calls().get(layers.random.below(5)) {
+            None => several_lists(layers, n),
+            Some(Call::Rebuild) => several_rebuild(layers, n),
+            Some(call) => several_rows(layers, n, *call),
+        };
         let number = check.call("several refusals", &question).number;
         let first = planted.iter().min();
         check.require(first.is_none() || first == Some(&number), &question, "not the first refusal");
@@ -130,8 +192,20 @@ fn several_rows(layers: &mut Layers, n: usize, call: Call) -> (Question, Vec<u64
     let random = &mut layers.random;
     let wanted = random.word();
     let planted: Vec<u64> = (1..=5).filter(|k| wanted >> k & 1 == 1 && (*k != 3 || n < 32)).collect();
+    let count = plant(random, n, &mut rows, &planted);
+    let needed = match call {
+        Call::Greedy => 4 * n + 2,
+        Call::FixedSpace => 2 * n,
+        _ => 2 * n + 1,
+    };
+    let out = if planted.contains(&5) { random.below(needed) } else { needed + random.below(4) };
+    (Question::of_words(call, count, &rows, out), planted)
+}
+
+/// Plants those of the refusals 1 to 4 that are named; the qubit count to pass.
+fn plant(random: &mut Random, n: usize, rows: &mut Vec<u64>, planted: &[u64]) -> u64 {
     if planted.contains(&4) {
-        damage(random, &mut rows);
+        damage(random, rows);
     }
     if planted.contains(&3) {
         let place = random.below(2 * n);
@@ -140,14 +214,29 @@ fn several_rows(layers: &mut Layers, n: usize, call: Call) -> (Question, Vec<u64
     if planted.contains(&2) {
         rows.resize(if random.one_in(2) { 2 * n - 1 } else { 2 * n + 1 + random.below(3) }, 0);
     }
-    let needed = match call {
-        Call::Greedy => 4 * n + 2,
-        Call::FixedSpace => 2 * n,
-        _ => 2 * n + 1,
+    if planted.contains(&1) {
+        33 + random.word() % 40
+    } else {
+        n as u64
+    }
+}
+
+fn several_lists(layers: &mut Layers, n: usize) -> (Question, Vec<u64>) {
+    let random = &mut layers.random;
+    let list = turns(random, n, 9);
+    let mut rows = product(n, &list);
+    let wanted = random.word();
+    let planted: Vec<u64> =
+        [1, 2, 3, 4, 14].into_iter().filter(|k| wanted >> k & 1 == 1 && (*k != 3 || n < 32)).collect();
+    let count = plant(random, n, &mut rows, &planted);
+    let mut maker = Maker::new(n, random.word() >> 1);
+    let (wrong, other) = (maker.spoiled(&list), maker.spoiled(&list));
+    let question = match (planted.contains(&14), random.one_in(2)) {
+        (true, _) => Question::of_lists(count, &rows, &wrong, &other),
+        (false, true) => Question::of_lists(count, &rows, &wrong, &list),
+        (false, false) => Question::of_lists(count, &rows, &list, &wrong),
     };
-    let out = if planted.contains(&5) { random.below(needed) } else { needed + random.below(4) };
-    let count = if planted.contains(&1) { 33 + random.word() % 40 } else { n as u64 };
-    (Question::of_words(call, count, &rows, out), planted)
+    (question, planted)
 }
 
 fn several_rebuild(layers: &mut Layers, n: usize) -> (Question, Vec<u64>) {
@@ -236,6 +325,49 @@ pub fn long_inputs(check: &mut Checker, random: &mut Random) {
             check.call("long inputs", &Question::of_words(Call::Rebuild, n as u64, &vectors, 2 * n));
             let bytes = circuit(random, n, length);
             check.call("long inputs", &Question::of_gates(n as u64, &bytes, 2 * n));
+        }
+    }
+}
+
+/// Lists far longer than any that a layer needs, once of a million vectors.
+pub fn long_lists(check: &mut Checker, random: &mut Random) {
+    let widths = [1, 2, 5, 17, 31, 32].into_iter().flat_map(|n| [1_000, 20_000].map(|length| (n, length)));
+    for (n, length) in widths.chain([(32, 1_000_000)]) {
+        let list: Vec<u64> = (0..length).map(|k| if k % 7 == 0 { 0 } else { random.vector(n) }).collect();
+        let rows = product(n, &list);
+        let longer = [&list[..], &[0]].concat();
+        let mut wrong = list.clone();
+        wrong[random.below(length)] ^= 1 << (2 * n - 1);
+        let cases = [(&longer, &wrong, 1), (&longer, &list, 2), (&wrong, &wrong, 14)];
+        for (first, second, wanted) in cases.into_iter().take(if length < 1_000_000 { 3 } else { 1 }) {
+            let question = Question::of_lists(n as u64, &rows, first, second);
+            let got = reply(&check.call("long inputs", &question));
+            check.require(got == wanted, &question, "not the shorter list that matches");
+        }
+    }
+}
+
+/// Rows and lists that overlap, and empty ones at null: the same reply as from buffers of their own.
+pub fn parts(check: &mut Checker, random: &mut Random) {
+    for n in 0..=32usize {
+        for _ in 0..10 {
+            let list = turns(random, n, 6);
+            let all = [product(n, &list), list, vec![0]].concat();
+            let (rows, end) = (2 * n, all.len());
+            for (first, second) in [
+                (rows..end, rows..end - 1),
+                (rows..end - 1, rows..end - 1),
+                (0..end, rows..end),
+                (rows..end - 1, 0..rows),
+                (0..0, rows..end),
+                (0..0, 0..0),
+                (0..end, 1..end),
+            ] {
+                let question = Question::of_lists(n as u64, &all[..rows], &all[first.clone()], &all[second.clone()]);
+                let seen = check.call("parts of one buffer", &question);
+                let got = choice_of_parts(n as u64, &all, [0..rows, first, second]);
+                check.require(got == (seen.number, seen.chosen), &question, "another reply where the parts overlap");
+            }
         }
     }
 }

@@ -1,4 +1,5 @@
-//! The five functions of the library behind one safe call. Every lent buffer stands between guard words of a known pattern.
+//! The six functions of the library behind one safe call. Every lent buffer stands between guard words of a known pattern.
+use std::ops::Range;
 
 extern "C" {
     fn turnlist_minimal(
@@ -35,6 +36,16 @@ extern "C" {
         out_len: usize,
         count: *mut u64,
     ) -> u64;
+    fn turnlist_shorter(
+        n: u64,
+        rows: *const u64,
+        row_count: usize,
+        first: *const u64,
+        first_len: usize,
+        second: *const u64,
+        second_len: usize,
+        chosen: *mut u64,
+    ) -> u64;
     fn turnlist_gates(
         n: u64,
         gates: *const u8,
@@ -51,26 +62,33 @@ pub enum Call {
     Greedy,
     FixedSpace,
     Rebuild,
+    Shorter,
     Gates,
 }
 
-/// One call with its input: words are rows or vectors, bytes are gates, out is the length of the output lent.
+/// One call with its input: words are rows or vectors, bytes are gates, lists are the two to choose from, out is the length
+/// of the output lent.
 #[derive(Clone, Debug)]
 pub struct Question {
     pub call: Call,
     pub n: u64,
     pub words: Vec<u64>,
     pub bytes: Vec<u8>,
+    pub lists: [Vec<u64>; 2],
     pub out: usize,
 }
 
 impl Question {
     pub fn of_words(call: Call, n: u64, words: &[u64], out: usize) -> Question {
-        Question { call, n, words: words.to_vec(), bytes: Vec::new(), out }
+        Question { call, n, words: words.to_vec(), bytes: Vec::new(), lists: [Vec::new(), Vec::new()], out }
+    }
+
+    pub fn of_lists(n: u64, rows: &[u64], first: &[u64], second: &[u64]) -> Question {
+        Question { lists: [first.to_vec(), second.to_vec()], ..Question::of_words(Call::Shorter, n, rows, 0) }
     }
 
     pub fn of_gates(n: u64, bytes: &[u8], out: usize) -> Question {
-        Question { call: Call::Gates, n, words: Vec::new(), bytes: bytes.to_vec(), out }
+        Question { bytes: bytes.to_vec(), ..Question::of_words(Call::Gates, n, &[], out) }
     }
 }
 
@@ -81,6 +99,7 @@ pub struct Seen {
     pub out: Vec<u64>,
     pub count: u64,
     pub looks: u64,
+    pub chosen: u64,
     pub guards: bool,
     pub input: bool,
 }
@@ -88,7 +107,7 @@ pub struct Seen {
 impl Seen {
     /// The lent words before any call.
     pub fn untouched(number: u64, out: usize) -> Seen {
-        Seen { number, out: pattern(out), count: COUNT, looks: LOOKS, guards: true, input: true }
+        Seen { number, out: pattern(out), count: COUNT, looks: LOOKS, chosen: CHOSEN, guards: true, input: true }
     }
 
     /// The words listed; none on a refusal.
@@ -103,6 +122,7 @@ impl Seen {
 const GUARDS: usize = 8;
 const COUNT: u64 = 0xC0C0_5EED_0000_C0C0;
 const LOOKS: u64 = 0x1001_5EED_0000_1001;
+const CHOSEN: u64 = 0xC405_5EED_0000_C405;
 
 /// Words that no call writes by chance, each of them different.
 fn pattern(length: usize) -> Vec<u64> {
@@ -139,9 +159,11 @@ impl<T: Copy + PartialEq> Fenced<T> {
 pub struct Lent {
     pub words: Fenced<u64>,
     pub bytes: Fenced<u8>,
+    pub lists: [Fenced<u64>; 2],
     pub out: Fenced<u64>,
     pub count: Fenced<u64>,
     pub looks: Fenced<u64>,
+    pub chosen: Fenced<u64>,
 }
 
 impl Lent {
@@ -150,15 +172,19 @@ impl Lent {
         Lent {
             words: words(&question.words),
             bytes: Fenced::new(&question.bytes, (1..=8 * GUARDS as u8).map(|i| i ^ 0xA5).collect()),
+            lists: question.lists.each_ref().map(|list| words(list)),
             out: words(&pattern(question.out)),
             count: words(&[COUNT]),
             looks: words(&[LOOKS]),
+            chosen: words(&[CHOSEN]),
         }
     }
 
     fn pass(&mut self, question: &Question) -> u64 {
         let n = question.n;
         let (words, word_count) = (self.words.pointer(), question.words.len());
+        let [first, second] = self.lists.each_mut().map(Fenced::pointer);
+        let [first_len, second_len] = question.lists.each_ref().map(Vec::len);
         let (out, count, looks) = (self.out.pointer(), self.count.pointer(), self.looks.pointer());
         // SAFETY: each pointer is to a buffer of the length passed with it, and no two overlap.
         unsafe {
@@ -169,14 +195,25 @@ impl Lent {
                 Call::Greedy => turnlist_greedy(n, words, word_count, out, question.out, count),
                 Call::FixedSpace => turnlist_fixed_space(n, words, word_count, out, question.out, count),
                 Call::Rebuild => turnlist_rebuild(n, words, word_count, out, question.out, count),
+                Call::Shorter => {
+                    let chosen = self.chosen.pointer();
+                    turnlist_shorter(n, words, word_count, first, first_len, second, second_len, chosen)
+                }
                 Call::Gates => turnlist_gates(n, self.bytes.pointer(), question.bytes.len(), out, question.out, count),
             }
         }
     }
 
     fn guarded(&self) -> bool {
-        let words = [&self.words, &self.out, &self.count, &self.looks];
+        let [first, second] = &self.lists;
+        let words = [&self.words, first, second, &self.out, &self.count, &self.looks, &self.chosen];
         words.iter().all(|buffer| buffer.guarded()) && self.bytes.guarded()
+    }
+
+    /// Whether all input is as it was.
+    fn kept(&mut self, question: &Question) -> bool {
+        let lists = self.lists.each_mut().map(Fenced::content);
+        lists == question.lists && self.words.content() == question.words && self.bytes.content() == question.bytes
     }
 }
 
@@ -193,9 +230,20 @@ pub fn answer(question: &Question, spoil: Option<Spoil>) -> Seen {
     Seen {
         number,
         guards: lent.guarded(),
-        input: lent.words.content() == question.words && lent.bytes.content() == question.bytes,
+        input: lent.kept(question),
         out: lent.out.content().to_vec(),
         count: lent.count.content()[0],
         looks: lent.looks.content()[0],
+        chosen: lent.chosen.content()[0],
     }
+}
+
+/// The number and the choice where the rows and the lists are parts of one buffer, those that are empty at null.
+pub fn choice_of_parts(n: u64, words: &[u64], parts: [Range<usize>; 3]) -> (u64, u64) {
+    let lend = |part: &[u64]| (if part.is_empty() { std::ptr::null() } else { part.as_ptr() }, part.len());
+    let [(rows, row_count), (first, first_len), (second, second_len)] = parts.map(|part| lend(&words[part]));
+    let mut chosen = CHOSEN;
+    // SAFETY: each pointer is to a part of the length passed with it, and what is written overlaps none.
+    let number = unsafe { turnlist_shorter(n, rows, row_count, first, first_len, second, second_len, &mut chosen) };
+    (number, chosen)
 }

@@ -1,6 +1,6 @@
-//! The library's five calls beside an independent model, and beside the Rust source where its program is named.
+//! The library's six calls beside an independent model, and beside the Rust source where its program is named.
 //! Arguments: the source's program or `-`; then, if wanted, `three` (every action on 3 qubits too), or `plant` and the number of
-//! a call whose count is to be damaged.
+//! a call whose count, or choice, is to be damaged.
 mod actions;
 mod check;
 mod edges;
@@ -10,6 +10,7 @@ mod library;
 mod minimal;
 mod model;
 mod selftest;
+mod shorter;
 mod source;
 mod words;
 
@@ -90,12 +91,16 @@ fn circuits(check: &mut Checker, layers: &mut Layers, listed: &mut Vec<Listed>) 
 /// The edges, with as many random samples as are asked for.
 fn all_edges(check: &mut Checker, layers: &mut Layers, samples: usize) {
     edges::lengths(check, layers);
+    edges::list_lengths(check);
     edges::widths(check);
     edges::wide_words(check, layers);
+    edges::wide_lists(check, &mut layers.random);
     edges::damaged_rows(check, layers);
     edges::several(check, layers, samples);
     edges::gate_faults(check, &mut layers.random, samples);
     edges::long_inputs(check, &mut layers.random);
+    edges::long_lists(check, &mut layers.random);
+    edges::parts(check, &mut layers.random);
 }
 
 /// How many actions differ from the source's, 0 where it is not at hand.
@@ -114,7 +119,13 @@ fn against_source(program: &str, listed: &[Listed]) -> u64 {
 
 /// Ends the program if the comparison cannot be trusted.
 fn test_self() {
-    let facts = [selftest::examples(), selftest::fixed_spaces(), selftest::families(), selftest::source_lines()];
+    let facts = [
+        selftest::examples(),
+        selftest::fixed_spaces(),
+        selftest::choices(),
+        selftest::families(),
+        selftest::source_lines(),
+    ];
     match facts.into_iter().collect::<Result<(), String>>().and_then(|()| selftest::planted()) {
         Ok(seen) => println!("{seen} planted damages, all of them reported\n"),
         Err(text) => {
@@ -134,6 +145,7 @@ fn main() {
     let mut listed = Vec::new();
     every_action(&mut check, if after("three").is_some() { 3 } else { 2 }, &mut listed);
     every_matrix(&mut check);
+    shorter::every_pair(&mut check);
     sampled(&mut check, &mut layers, &mut listed);
     deep(&mut check, &mut layers, &mut listed);
     circuits(&mut check, &mut layers, &mut listed);

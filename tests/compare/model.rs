@@ -1,4 +1,5 @@
-//! The five calls again, plainly, from the scope paper (the fixed space from request 3): the questions in their order, then the answer.
+//! The six calls again, plainly, from the scope paper (the fixed space from request 3, the shorter list from request 4): the
+//! questions in their order, then the answer.
 use crate::fixed;
 use crate::minimal::minimal_list;
 use crate::words::{mask, pairing, product, symplectic};
@@ -75,6 +76,15 @@ pub fn rebuild(n: u64, vectors: &[u64], out: usize) -> Reply {
     let n = width(n, out)?;
     ask(vectors.iter().all(|v| v & !mask(n) == 0), 8)?;
     Ok((product(n, vectors), 0))
+}
+
+/// 1 where the first list is chosen, 2 where the second is, or the refusal.
+pub fn shorter(n: u64, rows: &[u64], first: &[u64], second: &[u64]) -> Result<u64, u64> {
+    let n = action_questions(n, rows)?;
+    let matches = |list: &[u64]| list.iter().all(|v| v & !mask(n) == 0) && product(n, list) == rows;
+    let matching = [(1, first), (2, second)].into_iter().filter(|(_, list)| matches(list));
+    // of equal lengths min_by_key takes the first
+    matching.min_by_key(|(_, list)| list.len()).map(|(place, _)| place).ok_or(14)
 }
 
 pub fn gates(n: u64, bytes: &[u8], out: usize) -> Reply {

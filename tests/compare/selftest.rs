@@ -1,35 +1,45 @@
 //! Before the comparison: damage of every kind is planted and must be reported, the families are what they say, and the model
-//! gives the scope paper's examples and some fixed spaces.
+//! gives the scope paper's examples, some fixed spaces and some choices.
 use crate::check::Checker;
-use crate::fixed::{flaw, reduced};
+use crate::fixed::{self, reduced};
 use crate::layers::{hyperbolic, Family, Layers, FAMILIES};
 use crate::library::{Call, Lent, Question, Spoil};
-use crate::model::{fixed_space, gates, greedy, minimal};
+use crate::model::{self, fixed_space, gates, greedy, minimal};
+use crate::shorter;
 use crate::source::{agrees, Listed};
 use crate::words::{identity, symplectic, times};
 
 type Damage = Box<dyn Fn(&mut Lent, &mut u64)>;
 
-/// Damage of each kind; in place of input that a call does not have, a guard word is hit.
+/// Damage of each kind; in place of input or output that a call does not have, a guard word is hit.
 fn damages() -> Vec<(&'static str, Damage)> {
     vec![
         ("number", Box::new(|_, number| *number ^= 1)),
-        ("first output word", Box::new(|lent, _| lent.out.content()[0] ^= 1)),
-        ("last output word", Box::new(|lent, _| *lent.out.content().last_mut().unwrap() ^= 1 << 40)),
+        ("first output word", Box::new(|lent, _| lent.out.all[8] ^= 1)),
+        ("last output word", Box::new(|lent, _| *lent.out.all.iter_mut().nth_back(8).unwrap() ^= 1 << 40)),
         ("count", Box::new(|lent, _| lent.count.content()[0] += 1)),
         ("looks", Box::new(|lent, _| lent.looks.content()[0] -= 1)),
+        ("choice", Box::new(|lent, _| lent.chosen.content()[0] ^= 3)),
         ("input word", Box::new(|lent, _| lent.words.all[8] ^= 2)),
         ("input byte", Box::new(|lent, _| lent.bytes.all[64] ^= 2)),
+        ("first list", Box::new(|lent, _| lent.lists[0].all[8] ^= 2)),
+        ("second list", Box::new(|lent, _| *lent.lists[1].all.iter_mut().nth_back(8).unwrap() ^= 1)),
         ("word before the output", Box::new(|lent, _| lent.out.all[7] = 0)),
         ("word after the output", Box::new(|lent, _| *lent.out.all.last_mut().unwrap() ^= 1)),
         ("word before the input", Box::new(|lent, _| lent.words.all[0] ^= 1)),
         ("byte after the gates", Box::new(|lent, _| *lent.bytes.all.last_mut().unwrap() ^= 1)),
         ("word after the count", Box::new(|lent, _| lent.count.all[9] = 0)),
         ("word before the looks", Box::new(|lent, _| lent.looks.all[7] = 0)),
+        ("word before the first list", Box::new(|lent, _| lent.lists[0].all[7] = 0)),
+        ("word after the first list", Box::new(|lent, _| *lent.lists[0].all.last_mut().unwrap() ^= 1)),
+        ("word before the second list", Box::new(|lent, _| lent.lists[1].all[0] ^= 1)),
+        ("word after the second list", Box::new(|lent, _| *lent.lists[1].all.iter_mut().nth_back(7).unwrap() = 0)),
+        ("word before the choice", Box::new(|lent, _| lent.chosen.all[7] = 0)),
+        ("word after the choice", Box::new(|lent, _| lent.chosen.all[9] = 0)),
     ]
 }
 
-/// Answers and refusals of all five calls.
+/// Answers and refusals of all six calls.
 fn questions() -> Vec<Question> {
     let rows = [2, 1, 8, 4, 0x20, 0x10].map(|k: u64| k ^ 1);
     let swap = [2, 1, 8, 4];
@@ -47,6 +57,10 @@ fn questions() -> Vec<Question> {
         Question::of_words(Call::FixedSpace, 2, &hadamards, 3),
         Question::of_words(Call::Rebuild, 2, &[3, 0, 15], 4),
         Question::of_words(Call::Rebuild, 2, &[3, 16], 4),
+        Question::of_lists(2, &swap, &[12, 15, 3], &[3, 15, 0, 12]),
+        Question::of_lists(2, &swap, &[12, 15, 3, 0], &[3, 15, 12]),
+        Question::of_lists(2, &swap, &[12, 15], &[16]),
+        Question::of_lists(2, &rows, &[12, 15, 3], &[3]),
         Question::of_gates(2, &[0, 1, 9, 5, 0, 1], 4),
         Question::of_gates(2, &[0, 1, 9, 5, 1, 1], 4),
     ]
@@ -163,9 +177,52 @@ pub fn fixed_spaces() -> Result<(), String> {
         return Err(format!("the model's fixed space is {reply:?}, not {wanted:?}"));
     }
     let wrong: [&[u64]; 8] = [&[], &[3], &[3, 8], &[3, 15], &[12, 3], &[3, 3], &[0, 3], &[3, 16]];
-    let seen = wrong.iter().all(|list| flaw(2, &swap, list).is_some()) && flaw(2, &swap, &[3, 12]).is_none();
-    if !seen || reduced(&[15, 12, 3]) != [3, 12] {
+    let flawed = |list: &[u64]| fixed::flaw(2, &swap, list).is_some();
+    if !wrong.into_iter().all(flawed) || flawed(&[3, 12]) || reduced(&[15, 12, 3]) != [3, 12] {
         return Err("the reduced basis of a fixed space is mistaken".to_string());
+    }
+    Ok(())
+}
+
+/// The model makes these choices, and replies that are not right are seen not to be.
+pub fn choices() -> Result<(), String> {
+    let (identity, swap, hh) = (identity(2), [2, 1, 8, 4], [4, 8, 1, 2]);
+    let replies = [
+        (model::shorter(0, &[], &[], &[]), Ok(1)),
+        (model::shorter(0, &[], &[0], &[]), Ok(2)),
+        (model::shorter(0, &[], &[1], &[1 << 63]), Err(14)),
+        (model::shorter(2, &identity, &[7, 7], &[0]), Ok(2)),
+        (model::shorter(2, &identity, &[7], &[16]), Err(14)),
+        (model::shorter(2, &hh, &[5, 10], &[10, 5]), Ok(1)),
+        (model::shorter(2, &hh, &[5, 10, 0], &[10, 5]), Ok(2)),
+        (model::shorter(2, &hh, &[5, 26], &[0, 10, 5]), Ok(2)),
+        (model::shorter(2, &swap, &[12, 15, 3], &[]), Ok(1)),
+        (model::shorter(2, &swap, &[12, 15], &[5, 10]), Err(14)),
+        (model::shorter(2, &swap, &[12, 15, 3, 16], &[12, 15, 3 | 1 << 63]), Err(14)),
+        (model::shorter(1, &[2, 2], &[], &[]), Err(4)),
+        (model::shorter(1, &[2, 5], &[], &[]), Err(3)),
+        (model::shorter(1, &[4, 4, 4], &[], &[]), Err(2)),
+        (model::shorter(33, &[4], &[], &[]), Err(1)),
+    ];
+    if let Some(k) = replies.iter().position(|(reply, wanted)| reply != wanted) {
+        return Err(format!("the model's choice {k} is {:?}, not {:?}", replies[k].0, replies[k].1));
+    }
+    let wrong = [
+        (&swap, &[12, 15, 3][..], &[3, 15, 12][..], 2),
+        (&swap, &[12, 15, 3, 0], &[3, 15, 12], 1),
+        (&swap, &[12, 15], &[3, 15, 12], 1),
+        (&swap, &[12, 15, 3], &[16], 2),
+        (&swap, &[12, 15, 3], &[16], 14),
+        (&swap, &[16], &[12, 15, 3], 14),
+        (&swap, &[12, 15, 3], &[], 0),
+        (&hh, &[5, 26], &[5], 1),
+    ];
+    let flawed = |(rows, first, second, reply): (&[u64; 4], &[u64], &[u64], u64)| {
+        shorter::flaw(&Question::of_lists(2, rows, first, second), reply).is_some()
+    };
+    let right = [(&hh, &[5, 10][..], &[5][..], 1), (&hh, &[5, 10, 0], &[10, 5], 2), (&hh, &[], &[26, 5], 14)];
+    if !wrong.into_iter().all(flawed) || right.into_iter().any(flawed) {
+        return Err("a choice is misjudged".to_string());
     }
     Ok(())
 }

@@ -21,8 +21,8 @@ static uint64_t next(uint64_t below) {
 struct work {
     int kind;
     uint64_t rows[TURNLIST_ROWS(QUBITS)];
-    uint64_t list[TURNLIST_GREEDY_WORDS(QUBITS)];
-    uint64_t count, looks;
+    uint64_t list[TURNLIST_GREEDY_WORDS(QUBITS)], minimal[TURNLIST_MINIMAL_WORDS(QUBITS)];
+    uint64_t count, minimal_count, looks, chosen;
     uint8_t gates[BYTES];
 };
 
@@ -31,7 +31,7 @@ static void *run(void *lent) {
     size_t rows = TURNLIST_ROWS(QUBITS);
     switch (w->kind) {
     case 1:
-        turnlist_minimal(QUBITS, w->rows, rows, 100000, w->list, TURNLIST_GREEDY_WORDS(QUBITS), &w->count, &w->looks);
+        turnlist_minimal(QUBITS, w->rows, rows, 100000, w->minimal, TURNLIST_MINIMAL_WORDS(QUBITS), &w->minimal_count, &w->looks);
         break;
     case 2:
         turnlist_greedy(QUBITS, w->rows, rows, w->list, TURNLIST_GREEDY_WORDS(QUBITS), &w->count);
@@ -44,6 +44,9 @@ static void *run(void *lent) {
         break;
     case 5:
         turnlist_fixed_space(QUBITS, w->rows, rows, w->list, rows, &w->count);
+        break;
+    case 6:
+        turnlist_shorter(QUBITS, w->rows, rows, w->list, w->count, w->minimal, w->minimal_count, &w->chosen);
         break;
     }
     return NULL;
@@ -80,20 +83,21 @@ int main(void) {
     static struct work w;
     static const char *const names[] = {
         "", "turnlist_minimal", "turnlist_greedy", "turnlist_rebuild", "turnlist_gates", "turnlist_fixed_space",
+        "turnlist_shorter",
     };
-    size_t most[6] = {0}, bare;
+    size_t most[7] = {0}, bare;
     stack = aligned_alloc(4096, ROOM);
     if (stack == NULL) return 1;
     bare = used(&w, 0);
     for (int i = 0; i < 200; i++) {
         layer(&w, i % 6, i % 6 == 0 ? QUBITS : 8 * QUBITS);
-        int order[] = {4, 1, 5, 2, 3}; /* the greedy list is rebuilt */
-        for (int k = 0; k < 5; k++) {
+        int order[] = {4, 1, 5, 2, 6, 3}; /* the greedy list is held against the minimal one, then rebuilt */
+        for (int k = 0; k < 6; k++) {
             size_t bytes = used(&w, order[k]) - bare;
             if (most[order[k]] < bytes) most[order[k]] = bytes;
         }
     }
-    for (int k = 1; k < 6; k++) printf("%s %zu\n", names[k], most[k]);
+    for (int k = 1; k < 7; k++) printf("%s %zu\n", names[k], most[k]);
     free(stack);
     return 0;
 }
