@@ -1,4 +1,4 @@
-// Actions on qubits: the pairing, turns, products, the symplectic test, and the questions that calls share.
+// Actions on qubits: the pairing, turns, the symplectic test, lent rows and vectors, and the questions that calls share.
 // In the source: transvection_exact.rs, `action_matrix`, `transvection_matrix`, `symplectic_dual`, `right_multiply_transvection`; the questions are added.
 use binar::Row;
 ghost use mathlib.Core.Path.{_≡_};

@@ -44,7 +44,7 @@ returns c =
     let s = c .before .before .before .before .before .before .args in
     let at = c .before .before .before .before .loop in
     let h : at .i < length (rowsOf (s .t2)) = omega (arith, c .before .before .before .before .before .length-of .ensures) in
-    (all-fails (λ (v : ℕ). ltb v (2 ^ s .m)) 0 (rowsOf (s .t2)) (at .i) h (sym (c .before .fits2 .ensures ∙ ap (λ (v : ℕ). ltb v (2 ^ s .m)) (rows-get (s .t2) (at .i) h)) ∙ not-true (c .before .fits2 .result) (c .if1 .taken))) ∙ sym (fit-all-is (s .m) (rowsOf (s .t2)))
+    all-fails (λ (v : ℕ). ltb v (2 ^ s .m)) 0 (rowsOf (s .t2)) (at .i) h (sym (c .before .fits2 .ensures ∙ ap (λ (v : ℕ). ltb v (2 ^ s .m)) (rows-get (s .t2) (at .i) h)) ∙ not-true (c .before .fits2 .result) (c .if1 .taken)) ∙ sym (fit-all-is (s .m) (rowsOf (s .t2)))
 
 add-i : tie.Need-add-i Inv-loop μ-loop
 add-i c = search needs
