@@ -31,9 +31,10 @@ module _ (n : ℕ) (rows first second part : List ℕ) (number : ℕ) where
   abbrev pub FirstAtEqual : Type 0
   FirstAtEqual = number ≡ 0 → Plays n rows first → NoLonger n first second → part ≡ first
 
--- 14 exactly if questions 1 to 4 are passed and neither list plays the action
+-- questions 1 to 4 are passed, and neither list plays the action
 abbrev pub Unplayed : ℕ → List ℕ → List ℕ → List ℕ → Type 0
 Unplayed n rows first second = (actionQuestions n (rowsOfWords n rows) ≡ 0) × ((Plays n rows first → ⊥) × (Plays n rows second → ⊥))
 
+-- 14 exactly then
 abbrev pub Neither : ℕ → List ℕ → List ℕ → List ℕ → ℕ → Type 0
 Neither n rows first second number = (number ≡ 14 → Unplayed n rows first second) × (Unplayed n rows first second → number ≡ 14)
