@@ -114,7 +114,7 @@ table =
     ∷ (shorter 0 [] [] [] gives picks 0 1 [])
     -- SWAP by ZZ YY XX and by XX YY ZZ: the first at equal length
     ∷ (shorter 2 (played 2 (5 ∷ 0 ∷ 1 ∷ [])) (12 ∷ 15 ∷ 3 ∷ []) (3 ∷ 15 ∷ 12 ∷ []) gives picks 0 1 (12 ∷ 15 ∷ 3 ∷ []))
-    -- a zero vector counts; so does one in a list that does not match
+    -- a zero vector counts; and a shorter list that does not match is passed over
     ∷ (shorter 2 (played 2 (5 ∷ 0 ∷ 1 ∷ [])) (12 ∷ 0 ∷ 15 ∷ 3 ∷ []) (3 ∷ 15 ∷ 12 ∷ []) gives picks 0 2 (3 ∷ 15 ∷ 12 ∷ []))
     ∷ (shorter 2 (played 2 (5 ∷ 0 ∷ 1 ∷ [])) (12 ∷ 0 ∷ 15 ∷ 3 ∷ []) (3 ∷ 0 ∷ 12 ∷ []) gives picks 0 1 (12 ∷ 0 ∷ 15 ∷ 3 ∷ []))
     -- ZZ with a bit from 2n up is not ZZ, and a turn of such a bit alone, which would change nothing, is no turn
