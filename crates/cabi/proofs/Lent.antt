@@ -1,4 +1,4 @@
--- What a call promises of its answer holds of the figures that are read off the returned number and the lent numbers.
+-- What a call promises of its answer holds of the figures, or of the list, that are read off the returned number and the lent numbers.
 -- Assumes nothing.
 use mathlib.Core.Path.{_≡_, refl, sym, ap, _∙_, subst}
 use mathlib.Core.List.{List}

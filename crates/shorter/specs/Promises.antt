@@ -10,7 +10,7 @@ use Rattle.blocks.specs.Words.{rowsOfWords}
 use Rattle.symplectic.specs.Turns.{product}
 use Rattle.symplectic.specs.Replies.{actionQuestions}
 
--- a lent list plays the lent action: each vector is free of bits from 2n up, and the product is the whole action
+-- a lent list plays the lent action (document 02: matches): each vector is free of bits from 2n up, and the product is the whole action
 abbrev pub Plays : ℕ → List ℕ → List ℕ → Type 0
 Plays n rows list = All (λ v. v < 2 ^ (n + n)) (rowsOfWords n list) × (product n (rowsOfWords n list) ≡ rowsOfWords n rows)
 

@@ -25,6 +25,7 @@ preferred true false shorter = chosen 1
 preferred false true shorter = chosen 2
 preferred false false shorter = nothingChosen 14
 
+-- the choice between two lists of vectors, for an action that passed
 unfoldable pub shorterOf : ℕ → List ℕ → List ℕ → List ℕ → Chosen
 shorterOf n F vs ws = preferred (matches n F vs) (matches n F ws) (ltb (length ws) (length vs))
 

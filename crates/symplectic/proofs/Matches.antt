@@ -17,7 +17,7 @@ use Rattle.symplectic.proofs.Questions.{fit-all, all-fit}
 
 -- ---- rows compared
 
-pub rows-equal : (xs ys : List ℕ) → sameRows xs ys ≡ true → xs ≡ ys
+rows-equal : (xs ys : List ℕ) → sameRows xs ys ≡ true → xs ≡ ys
 rows-equal [] [] e = refl
 rows-equal [] (y ∷ ys) e = absurd (true≢false (sym e))
 rows-equal (x ∷ xs) [] e = absurd (true≢false (sym e))

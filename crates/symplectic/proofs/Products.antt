@@ -125,7 +125,7 @@ pub product-snoc : (n : ℕ) (vs : List ℕ) (v : ℕ) → product n (vs ++ (v �
 product-snoc n vs v = product-append n vs (v ∷ [])
 
 -- one more of a list
-pub product-next : (n : ℕ) (vs : List ℕ) (i : ℕ) → i < length vs → product n (take (suc i) vs) ≡ followed n (product n (take i vs)) (getD vs i 0)
+product-next : (n : ℕ) (vs : List ℕ) (i : ℕ) → i < length vs → product n (take (suc i) vs) ≡ followed n (product n (take i vs)) (getD vs i 0)
 product-next n vs i h = ap (product n) (take-suc vs i 0 h) ∙ product-snoc n (take i vs) (getD vs i 0)
 
 -- the next turn made of the product so far, for a loop

@@ -10,10 +10,11 @@ use lib.ListN.{length}
 use borrow.Author.Tests.{ltb-true, leb-true, eqb-true, lt-ltb, le-leb, lt-leb, eq-eqb, ne-eqb}
 use Rattle.blocks.specs.Matrices.{All}
 use Rattle.blocks.proofs.All.{All·map}
-use Rattle.symplectic.specs.Actions.{maxQubits}
+use Rattle.symplectic.specs.Actions.{maxQubits, capped}
 use Rattle.symplectic.specs.Turns.{allOf, symplectic}
 use Rattle.symplectic.specs.Replies.{Reply, refused, ask, andThen, unlessRefused, fitAll, sizeQuestion, countQuestion, actionQuestions, listQuestions}
 use Rattle.symplectic.proofs.Lists.{all-true, true-all}
+use Rattle.symplectic.proofs.Arrays.{capped-is}
 
 -- ---- one question
 
@@ -29,6 +30,10 @@ fit-all-is m rows = refl
 pub fit-all : (m : ℕ) (rows : List ℕ) → fitAll m rows ≡ true → All (λ f. f < 2 ^ m) rows
 unfolding fitAll
 fit-all m rows e = All·map (λ v t. ltb-true v (2 ^ m) t) rows (all-true (λ v. ltb v (2 ^ m)) rows e)
+
+-- at no more qubits than the most
+pub fit-capped : (n : ℕ) (rows : List ℕ) → n ≤ maxQubits → fitAll (capped n + capped n) rows ≡ fitAll (n + n) rows
+fit-capped n rows h = ap (λ (k : ℕ). fitAll (k + k) rows) (capped-is n h)
 
 pub all-fit : (m : ℕ) (rows : List ℕ) → All (λ f. f < 2 ^ m) rows → fitAll m rows ≡ true
 unfolding fitAll

@@ -1,4 +1,4 @@
--- Tests of all members, one by one: true so far, one member more, and a member that fails. Then the test of an action's rows.
+-- A test and those behind it; tests of all members, one by one: true so far, one member more, and a member that fails. Then the test of an action's rows.
 -- Assumes nothing.
 use mathlib.Core.Path.{_≡_, refl, sym, ap, ap₂, _∙_}
 use mathlib.Core.Bool.{Bool, true, false, _&&_, Bool·beq, and-eq-true-iff}

@@ -9,6 +9,7 @@ use Rattle.blocks.specs.Words.{rowsOfWords, laid}
 use Rattle.symplectic.specs.Turns.{product}
 use Rattle.symplectic.specs.Replies.{fitAll}
 use Rattle.symplectic.proofs.Arrays.{capped-is}
+use Rattle.symplectic.proofs.Questions.{fit-capped}
 use Rattle.rebuild.proofs.Replied.{rebuild-1, rebuild-2, rebuild-8, rebuild-listed}
 use borrow.Author.Needs.{needs}
 use Rattle.rebuild.proofs.rebuild.Statement.{statement}
@@ -18,7 +19,7 @@ use Rattle.rebuild.proofs.rebuild.Tie as tie
 tested : (c : tie.After-words-fit) → let s = c .before .before .before .before .before .args in fitAll (s .n + s .n) (rowsOfWords (s .n) (s .list .now)) ≡ c .words-fit .result
 tested c =
     let s = c .before .before .before .before .before .args in
-    sym (c .words-fit .ensures ∙ ap (λ (k : ℕ). fitAll (k + k) (rowsOfWords (s .n) (s .list .now))) (capped-is (s .n) (search needs)))
+    sym (c .words-fit .ensures ∙ fit-capped (s .n) (rowsOfWords (s .n) (s .list .now)) (search needs))
 
 returns : tie.Need-returns
 returns c =

@@ -1,6 +1,6 @@
 -- `action_questions` answers the first question that is answered no, by the laws of each question.
 -- Assumes nothing.
-use mathlib.Core.Path.{_≡_, sym, ap, ap₂, _∙_}
+use mathlib.Core.Path.{_≡_, sym, ap₂, _∙_}
 use mathlib.Core.List.{List}
 use Prim.Native.Nat.{ℕ, _+_}
 use native.Mathlib.Omega.{arith}
@@ -10,8 +10,8 @@ use Rattle.blocks.specs.Words.{rowsOfWords}
 use Rattle.blocks.proofs.Values.{rows-count}
 use Rattle.symplectic.specs.Turns.{symplectic}
 use Rattle.symplectic.specs.Replies.{fitAll}
-use Rattle.symplectic.proofs.Arrays.{capped-is, loaded}
-use Rattle.symplectic.proofs.Questions.{question-1, question-2, question-3, question-4, questions-passed}
+use Rattle.symplectic.proofs.Arrays.{loaded}
+use Rattle.symplectic.proofs.Questions.{fit-capped, question-1, question-2, question-3, question-4, questions-passed}
 use borrow.Author.Needs.{needs}
 use Rattle.symplectic.proofs.action_questions.Statement.{statement}
 use Rattle.symplectic.proofs.action_questions.Tie as tie
@@ -24,7 +24,7 @@ size c = let s = c .before .before .before .args in rows-count (s .n) (s .words 
 fit : (c : tie.After-words-fit) → let s = c .before .before .before .before .args in fitAll (s .n + s .n) (rowsOfWords (s .n) (s .words .now)) ≡ c .words-fit .result
 fit c =
     let s = c .before .before .before .before .args in
-    sym (c .words-fit .ensures ∙ ap (λ (k : ℕ). fitAll (k + k) (rowsOfWords (s .n) (s .words .now))) (capped-is (s .n) (search needs)))
+    sym (c .words-fit .ensures ∙ fit-capped (s .n) (rowsOfWords (s .n) (s .words .now)) (search needs))
 
 tested : (c : tie.After-is-symplectic) → let s = c .before .before .before .before .before .before .before .args in symplectic (s .n) (rowsOfWords (s .n) (s .words .now)) ≡ c .is-symplectic .result
 tested c =
