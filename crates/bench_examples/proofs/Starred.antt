@@ -1,4 +1,4 @@
--- The one computed theorem: every starred example of document 01, and those of the fixed space and of the shorter list, as the definitions answer them.
+-- The one computed theorem: every starred example of document 01, and those of the fixed space, of the shorter list and of the commutation chart, as the definitions answer them.
 -- Assumes nothing.
 use mathlib.Core.Path.{_≡_, refl}
 use mathlib.Core.List.{map, zip, zipWith, flatten}
@@ -23,9 +23,10 @@ use Rattle.transvection_exact.specs.Minimal.{coreSearch, minimalReply}
 use Rattle.gates.specs.Sequences.{readsTwo, gateQuestions, sequenceQuestions, sequenceTurns, gatesReply}
 use Rattle.gates.specs.Sheet.{sheet, gate, turnVector}
 use Rattle.job.specs.Files.{littleEndian, part, number, qubitCount, entryCount, entry, partSize, entryPasses, entriesPass, fileQuestions}
-use Rattle.lines.specs.Lines.{decimalIn, decimal, lettersFrom, letters, touchedFrom, touched, load, spelled, line, fileLine}
+use Rattle.letters.specs.Letters.{letter, vector, lettersFrom, letters, spelling}
+use Rattle.lines.specs.Lines.{decimalIn, decimal, touchedFrom, touched, load, spelled, line, fileLine}
 use Rattle.printout.specs.Printout.{wordsOfBytes, entryAction, entryLine, entryLines, fileLines, printout}
 
 pub starred : map (λ (e : Example). answer (e .call)) table ≡ map (λ (e : Example). e .expected) table
-unfolding table answer zip zipWith flatten odd bit _⊕_ weight dot times units dots rowsOfWords wordOf wordsOfRows laid firstOne unevenWith firstUneven pick fitAll sizeQuestion countQuestion actionQuestions listQuestions xBits zBits pairing turn followed product pairAlike symplectic identityPlus columns rowReduceWithTransform rank residue reduction basis transform timesTransposed core form kernel reducedBasis fixedSpace fixedReply shorterOf shorterReply partOf draws search budgeted complement symmetricWith isAlternating unitLower validate matches verifiesBordered checkedList borderedList splitAt withPartner fromFirst symplecticSimplex peeled borderedFamily besideBasis firstNonzero nextTransvection recorded greedyList greedyReply coreSearch minimalReply readsTwo gateQuestions sequenceQuestions sequenceTurns gatesReply sheet gate turnVector littleEndian part number qubitCount entryCount entry partSize entryPasses entriesPass fileQuestions decimalIn decimal lettersFrom letters touchedFrom touched load spelled line fileLine wordsOfBytes entryAction entryLine entryLines fileLines printout
+unfolding table answer zip zipWith flatten odd bit _⊕_ weight dot times units dots rowsOfWords wordOf wordsOfRows laid firstOne unevenWith firstUneven pick fitAll sizeQuestion countQuestion actionQuestions listQuestions xBits zBits pairing turn followed product pairAlike symplectic identityPlus columns rowReduceWithTransform rank residue reduction basis transform timesTransposed core form kernel reducedBasis fixedSpace fixedReply shorterOf shorterReply partOf draws search budgeted complement symmetricWith isAlternating unitLower validate matches verifiesBordered checkedList borderedList splitAt withPartner fromFirst symplecticSimplex peeled borderedFamily besideBasis firstNonzero nextTransvection recorded greedyList greedyReply coreSearch minimalReply readsTwo gateQuestions sequenceQuestions sequenceTurns gatesReply sheet gate turnVector littleEndian part number qubitCount entryCount entry partSize entryPasses entriesPass fileQuestions letter vector lettersFrom letters spelling decimalIn decimal touchedFrom touched load spelled line fileLine wordsOfBytes entryAction entryLine entryLines fileLines printout
 starred = refl

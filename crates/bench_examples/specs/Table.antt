@@ -1,12 +1,13 @@
--- The starred bench examples of document 01, and examples of the fixed space and of the shorter list (document 02, items 3 and 4), as one
--- table of calls and expected answers.
+-- The starred bench examples of document 01, and examples of the fixed space, of the shorter list and of the commutation chart (document 02,
+-- items 3 to 5), as one table of calls and expected answers.
 -- Expected values are literals.
 -- In each call the lent output words hold 9 at entry, so that the words left unchanged can be seen. The actions of H and CX are made
 -- from the gate sheet.
 -- Assumes nothing.
-use mathlib.Core.List.{List, [], _∷_}
+use mathlib.Core.List.{List, [], _∷_, map}
 use Prim.Native.Nat.{ℕ, _+_}
 use lib.ListN.{replicate}
+use Rattle.binar.specs.Bits.{digit}
 use Rattle.symplectic.specs.Replies.{Reply}
 use Rattle.gates.specs.Sequences.{gatesReply}
 use Rattle.shorter.specs.declared.Chosen.{Chosen}
@@ -14,6 +15,9 @@ use Rattle.shorter.specs.Shorter.{shorterReply, partOf}
 use Rattle.fixed_space.specs.FixedSpace.{fixedReply}
 use Rattle.transvection.specs.Greedy.{greedyReply}
 use Rattle.transvection_exact.specs.Minimal.{minimalReply}
+use Rattle.letters.specs.declared.Letter.{Letter}
+use Rattle.letters.specs.declared.Letter.the-variants.{I, X, Y, Z}
+use Rattle.letters.specs.Letters.{alphabet, chart}
 use Rattle.printout.specs.Printout.{printout}
 
 -- a public call and what it is given
@@ -30,6 +34,8 @@ pub data Call : Type 0 where
   gates : ℕ → List ℕ → ℕ → Call
   -- the bytes of a job file
   job : List ℕ → Call
+  -- a row of the chart
+  charted : Letter → Call
 
 -- a call's whole answer
 pub data Answer : Type 0 where
@@ -39,6 +45,8 @@ pub data Answer : Type 0 where
   picks : ℕ → ℕ → List ℕ → Answer
   -- the bytes printed
   shown : List ℕ → Answer
+  -- what the letter pairs to with I, X, Y, Z
+  pairs : List ℕ → Answer
 
 abbrev pub replied : Reply → Answer
 replied r = replies (r .figures .number) (r .figures .count) (r .figures .looks) (r .words)
@@ -53,6 +61,7 @@ answer (fixed n rows lent) = replied (fixedReply n rows (replicate lent 9))
 answer (shorter n rows first second) = picked first second (shorterReply n rows first second)
 answer (gates n bytes lent) = replied (gatesReply n bytes (replicate lent 9))
 answer (job file) = shown (printout file)
+answer (charted a) = pairs (map (λ b. digit (chart a b)) alphabet)
 
 -- the rows of a gate sequence: gate, a, b for each gate
 abbrev pub played : ℕ → List ℕ → List ℕ
@@ -128,4 +137,9 @@ table =
     ∷ (shorter 1 (1 ∷ 4 ∷ []) (3 ∷ []) [] gives picks 3 0 [])
     ∷ (shorter 1 (1 ∷ []) (3 ∷ []) [] gives picks 2 0 [])
     ∷ (shorter 33 [] (3 ∷ []) [] gives picks 1 0 [])
+    -- the commutation chart
+    ∷ (charted I gives pairs (0 ∷ 0 ∷ 0 ∷ 0 ∷ []))
+    ∷ (charted X gives pairs (0 ∷ 0 ∷ 1 ∷ 1 ∷ []))
+    ∷ (charted Y gives pairs (0 ∷ 1 ∷ 0 ∷ 1 ∷ []))
+    ∷ (charted Z gives pairs (0 ∷ 1 ∷ 1 ∷ 0 ∷ []))
     ∷ []

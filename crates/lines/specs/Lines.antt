@@ -1,6 +1,6 @@
 -- A line of the printout, byte by byte.
 -- Assumes nothing.
-use mathlib.Core.Bool.{Bool, true, false, cond, _||_}
+use mathlib.Core.Bool.{cond, _||_}
 use mathlib.Core.List.{List, [], _∷_, _++_}
 use Prim.Native.Nat.{ℕ, zero, suc, _+_, _/_, _%_}
 use lib.Dec.{ltb}
@@ -8,6 +8,7 @@ use lib.ListN.{take}
 use Rattle.binar.specs.Bits.{digit, bit}
 use Rattle.blocks.specs.Words.{rowsOfWords}
 use Rattle.symplectic.specs.Replies.{Reply}
+use Rattle.letters.specs.Letters.{spelling}
 
 -- a number in decimal: at most one digit more than the first number says
 unfoldable pub decimalIn : ℕ → ℕ → List ℕ
@@ -16,22 +17,6 @@ decimalIn (suc k) v = let high = decimalIn k (v / 10) in cond (ltb v 10) ((48 + 
 
 unfoldable pub decimal : ℕ → List ℕ
 decimal v = decimalIn v v
-
--- the letter of a qubit with bits x and z: I, Z, X, Y
-abbrev pub letter : Bool → Bool → ℕ
-letter false false = 73
-letter false true = 90
-letter true false = 88
-letter true true = 89
-
--- k qubits of a vector of n from qubit q on
-unfoldable pub lettersFrom : ℕ → ℕ → ℕ → ℕ → List ℕ
-lettersFrom n v zero q = []
-lettersFrom n v (suc k) q = letter (bit q v) (bit (n + q) v) ∷ lettersFrom n v k (suc q)
-
--- a vector as n letters, qubit 0 first
-unfoldable pub letters : ℕ → ℕ → List ℕ
-letters n v = lettersFrom n v n 0
 
 -- k qubits of a vector of n from qubit q on: how many have x or z set
 unfoldable pub touchedFrom : ℕ → ℕ → ℕ → ℕ → ℕ
@@ -56,7 +41,7 @@ newline = 10
 -- each vector, after a space
 unfoldable pub spelled : ℕ → List ℕ → List ℕ
 spelled n [] = []
-spelled n (v ∷ vs) = space ∷ (letters n v ++ spelled n vs)
+spelled n (v ∷ vs) = space ∷ (spelling n v ++ spelled n vs)
 
 -- a number, after a space
 abbrev pub field : ℕ → List ℕ

@@ -8,7 +8,8 @@ ghost use Prim.Native.Nat.{_+_};
 ghost use lib.ListN.{length, take};
 ghost use Rattle.binar.specs.Rows.{val};
 ghost use Rattle.blocks.specs.Words.{rowsOfWords};
-ghost use Rattle.lines.specs.Lines.{decimal as decimalOf, letter as letterOf, letters as lettersOf, touched as touchedOf, load as loadOf, space, spelled as spelledOf, field as fieldOf, line as lineOf, fileLine};
+ghost use Rattle.letters.specs.Letters.{spelling};
+ghost use Rattle.lines.specs.Lines.{decimal as decimalOf, touched as touchedOf, load as loadOf, space, spelled as spelledOf, field as fieldOf, line as lineOf, fileLine};
 ghost use Rattle.lines.specs.Bytes.{lineRoom, bytesOf, laidBytes, nameBytes};
 ghost use Rattle.lines.specs.inner.Tallies.{tallied};
 
@@ -102,27 +103,17 @@ fn append_name(l: Line, which: Name) -> Line
     }
 }
 
-// The letter of a qubit with bits x and z.
-fn letter(x: bool, z: bool) -> u8
-    ensures { λ r. ⌜ r ≡ letterOf x z ⌝ }
-{
-    if z {
-        if x { 89 } else { 90 }
-    } else {
-        if x { 88 } else { 73 }
-    }
-}
-
 // The letters of a vector of n qubits.
 fn letters(l: Line, n: usize, v: Row) -> Line
-    ensures { λ r. ⌜ bytesOf r ≡ take lineRoom (bytesOf l ++ lettersOf n (val v)) ⌝ }
+    ensures { λ r. ⌜ bytesOf r ≡ take lineRoom (bytesOf l ++ spelling n (val v)) ⌝ }
 {
     let k = blocks::lesser(l.count, LINE_ROOM);
     let m = blocks::lesser(n, LINE_ROOM - k);
     let high = binar::shift_down(v, n);
     let mut out = l;
     for q in 0..m {
-        out.bytes[k + q] = letter(binar::bit(v, q), binar::bit(high, q));
+        let letter = letters::of_bits(binar::bit(v, q), binar::bit(high, q));
+        out.bytes[k + q] = letters::byte(letter);
     }
     out.count = k + m;
     out

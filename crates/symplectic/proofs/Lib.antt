@@ -1,6 +1,7 @@
 pub mod Transvections
 pub mod Wall
 pub mod Pairings
+pub mod Qubits
 pub mod Lists
 pub mod Products
 pub mod Layers

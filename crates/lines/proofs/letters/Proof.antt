@@ -1,4 +1,4 @@
--- `letters` writes the letters of a vector in place, by `write-more` and `letters-at`.
+-- `letters` writes the letters of a vector in place, by `write-more` and `spelling-at`.
 -- Assumes nothing.
 use mathlib.Core.Path.{_≡_, sym, ap, ap₂, _∙_}
 use mathlib.Core.List.{_++_}
@@ -7,23 +7,23 @@ use native.Mathlib.Omega.{arith}
 use lib.ListN.{length, take, length-set}
 use Rattle.binar.specs.Bits.{bit}
 use Rattle.binar.specs.Rows.{val}
-use Rattle.lines.specs.Lines.{letter, letters}
+use Rattle.letters.specs.Letters.{letter, byte, spelling}
+use Rattle.letters.proofs.Spelling.{spelling-length, spelling-at}
 use Rattle.lines.specs.Bytes.{lineRoom, bytesOf}
 use Rattle.lines.proofs.Cuts.{write-none, write-more, write-all}
-use Rattle.lines.proofs.Spelling.{letters-length, letters-at}
 use borrow.Author.Needs.{needs}
 use Rattle.lines.proofs.letters.Statement.{statement}
 use Rattle.lines.proofs.letters.Tie as tie
 
 abbrev Inv-loop : tie.InvT-loop
-Inv-loop n v k m high out₀ q₀ out q = (q ≤ m) × (length (out .bytes) ≡ lineRoom) × (take (k + q) (out .bytes) ≡ take (k + q) (bytesOf out₀ ++ letters n (val v)))
+Inv-loop n v k m high out₀ q₀ out q = (q ≤ m) × (length (out .bytes) ≡ lineRoom) × (take (k + q) (out .bytes) ≡ take (k + q) (bytesOf out₀ ++ spelling n (val v)))
 
 abbrev μ-loop : tie.MeasureT-loop
 μ-loop n v k m high out₀ q₀ out q = m - q
 
 -- how many letters fit
-fit : (n v k m : ℕ) → m ≡ min n (lineRoom - k) → m ≡ min (length (letters n v)) (lineRoom - k)
-fit n v k m e = e ∙ ap (λ (j : ℕ). min j (lineRoom - k)) (sym (letters-length n v))
+fit : (n v k m : ℕ) → m ≡ min n (lineRoom - k) → m ≡ min (length (spelling n v)) (lineRoom - k)
+fit n v k m e = e ∙ ap (λ (j : ℕ). min j (lineRoom - k)) (sym (spelling-length n v))
 
 lesser-requires : tie.Need-lesser-requires Inv-loop μ-loop
 lesser-requires c κs = search needs
@@ -43,7 +43,7 @@ loop-holds c =
     let k = c .before .before .lesser .result in
     let m = c .before .lesser2 .result in
     let long : length (s .l .bytes) ≡ lineRoom = search needs in
-    (search needs, long, write-none (s .l) (letters (s .n) (val (s .v))) k m long (c .before .before .lesser .ensures) (fit (s .n) (val (s .v)) k m (c .before .lesser2 .ensures)))
+    (search needs, long, write-none (s .l) (spelling (s .n) (val (s .v))) k m long (c .before .before .lesser .ensures) (fit (s .n) (val (s .v)) k m (c .before .lesser2 .ensures)))
 
 bit-requires : tie.Need-bit-requires Inv-loop μ-loop
 bit-requires c κs = search needs
@@ -51,8 +51,11 @@ bit-requires c κs = search needs
 bit-requires-2 : tie.Need-bit-requires-2 Inv-loop μ-loop
 bit-requires-2 c κs = search needs
 
-letter-requires : tie.Need-letter-requires Inv-loop μ-loop
-letter-requires c κs = search needs
+of-bits-requires : tie.Need-of-bits-requires Inv-loop μ-loop
+of-bits-requires c κs = search needs
+
+byte-requires : tie.Need-byte-requires Inv-loop μ-loop
+byte-requires c κs = search needs
 
 add-out : tie.Need-add-out Inv-loop μ-loop
 add-out c = search needs
@@ -68,19 +71,19 @@ loop-less c = search needs
 
 loop-again : tie.Need-loop-again Inv-loop μ-loop
 loop-again c =
-    let s = c .before .before .before .before .before .before .before .before .args in
-    let k = c .before .before .before .before .before .before .before .lesser .result in
-    let m = c .before .before .before .before .before .before .lesser2 .result in
-    let at = c .before .before .before .before .loop in
+    let s = c .before .before .before .before .before .before .before .before .before .args in
+    let k = c .before .before .before .before .before .before .before .before .lesser .result in
+    let m = c .before .before .before .before .before .before .before .lesser2 .result in
+    let at = c .before .before .before .before .before .loop in
     let i = at .inv in
     let v = val (s .v) in
-    let inside : at .q < s .n = omega (arith, c .before .before .before .before .before .before .lesser2 .ensures, c .before .before .before .loop-test .taken) in
-    let x = c .before .before .bit .ensures in
-    let z = c .before .bit2 .ensures ∙ ap (bit (at .q)) (c .before .before .before .before .before .shift-down .ensures) in (
+    let inside : at .q < s .n = omega (arith, c .before .before .before .before .before .before .before .lesser2 .ensures, c .before .before .before .before .loop-test .taken) in
+    let x = c .before .before .before .bit .ensures in
+    let z = c .before .before .bit2 .ensures ∙ ap (bit (at .q)) (c .before .before .before .before .before .before .shift-down .ensures) in (
       search needs,
       simp length-set (i .1),
-      write-more (s .l) (letters (s .n) v) k m (search needs) (c .before .before .before .before .before .before .before .lesser .ensures) (fit (s .n) v k m (c .before .before .before .before .before .before .lesser2 .ensures))
-          (at .q) (c .letter .result) (at .out .bytes) (i .1) (c .before .before .before .loop-test .taken) (c .letter .ensures ∙ ap₂ letter x z ∙ letters-at (s .n) v (at .q) inside) (i .2),
+      write-more (s .l) (spelling (s .n) v) k m (search needs) (c .before .before .before .before .before .before .before .before .lesser .ensures) (fit (s .n) v k m (c .before .before .before .before .before .before .before .lesser2 .ensures))
+          (at .q) (c .byte .result) (at .out .bytes) (i .1) (c .before .before .before .before .loop-test .taken) (c .byte .ensures ∙ ap byte (c .before .of-bits .ensures ∙ ap₂ letter x z) ∙ spelling-at (s .n) v (at .q) inside) (i .2),
     )
 
 add-out-2 : tie.Need-add-out-2 Inv-loop μ-loop
@@ -93,7 +96,7 @@ returns c =
     let k = c .before .before .before .before .lesser .result in
     let m = c .before .before .before .lesser2 .result in
     let at = c .before .loop in
-    write-all (s .l) (letters (s .n) (val (s .v))) k m (search needs) (c .before .before .before .before .lesser .ensures) (fit (s .n) (val (s .v)) k m (c .before .before .before .lesser2 .ensures))
+    write-all (s .l) (spelling (s .n) (val (s .v))) k m (search needs) (c .before .before .before .before .lesser .ensures) (fit (s .n) (val (s .v)) k m (c .before .before .before .lesser2 .ensures))
     (at .q) (at .out .bytes) (omega arith) (at .inv .2)
 
 pub letters-spec : {M : Type 1} → statement M
@@ -109,7 +112,8 @@ letters-spec =
     loop-holds
     bit-requires
     bit-requires-2
-    letter-requires
+    of-bits-requires
+    byte-requires
     add-out
     element-write-out
     add-q

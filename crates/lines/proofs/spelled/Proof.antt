@@ -9,7 +9,8 @@ use lib.Seq.{take-all}
 use Rattle.binar.specs.Rows.{val}
 use Rattle.blocks.specs.Words.{rowsOfWords}
 use Rattle.blocks.proofs.Values.{rows-count, rows-word}
-use Rattle.lines.specs.Lines.{letters, spelled, space}
+use Rattle.letters.specs.Letters.{spelling}
+use Rattle.lines.specs.Lines.{spelled, space}
 use Rattle.lines.specs.Bytes.{lineRoom, bytesOf}
 use Rattle.lines.proofs.Cuts.{cut-then, bytes-whole}
 use Rattle.lines.proofs.Spelling.{spelled-next}
@@ -62,9 +63,9 @@ loop-again c =
     let p = bytesOf (c .before .before .before .push .result) in
     let h : at .i < length rows = omega (arith, rows-count (s .n) w) in
     let row : val (c .before .of-word .result) ≡ v = c .before .of-word .ensures ∙ sym (rows-word (s .n) w (at .i)) in
-    let one : r ≡ take lineRoom (bytesOf (at .out) ++ (space ∷ letters (s .n) v)) = cut-then lineRoom (bytesOf (at .out)) p r (space ∷ []) (letters (s .n) v) (c .before .before .before .push .ensures) (c .letters .ensures ∙ ap (λ (u : ℕ). take lineRoom (p ++ letters (s .n) u)) row) in (
+    let one : r ≡ take lineRoom (bytesOf (at .out) ++ (space ∷ spelling (s .n) v)) = cut-then lineRoom (bytesOf (at .out)) p r (space ∷ []) (spelling (s .n) v) (c .before .before .before .push .ensures) (c .letters .ensures ∙ ap (λ (u : ℕ). take lineRoom (p ++ spelling (s .n) u)) row) in (
       search needs,
-      cut-then lineRoom b (bytesOf (at .out)) r (spelled (s .n) (take (at .i) rows)) (space ∷ letters (s .n) v) (at .inv .1) one
+      cut-then lineRoom b (bytesOf (at .out)) r (spelled (s .n) (take (at .i) rows)) (space ∷ spelling (s .n) v) (at .inv .1) one
           ∙ ap (λ (l : List ℕ). take lineRoom (b ++ l)) (sym (spelled-next (s .n) (at .i) rows h)),
     )
 

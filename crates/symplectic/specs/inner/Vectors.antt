@@ -1,9 +1,10 @@
--- A vector sent through turns, a vector with its halves exchanged, and one row of the symplectic test.
+-- A vector sent through turns, a vector with its halves exchanged, the pairing qubit by qubit, and one row of the symplectic test.
 -- Assumes nothing.
-use mathlib.Core.Bool.{Bool}
+use mathlib.Core.Bool.{Bool, false, _&&_}
 use mathlib.Core.List.{List, [], _∷_, zip}
-use Prim.Native.Nat.{ℕ, _+_, _*_, _^_}
+use Prim.Native.Nat.{ℕ, zero, suc, _+_, _*_, _^_}
 use lib.ListN.{getD}
+use Rattle.binar.specs.Bits.{_⊻_, bit}
 use Rattle.blocks.specs.Matrices.{units}
 use Rattle.symplectic.specs.Turns.{xBits, zBits, turn, allOf, pairAlike}
 
@@ -19,3 +20,8 @@ pairsAsBasis n F i = allOf (pairAlike n (getD F i 0, 2 ^ i)) (zip F (units (n + 
 -- a vector with its halves exchanged
 unfoldable pub swapHalves : ℕ → ℕ → ℕ
 swapHalves n v = xBits n v * 2 ^ n + zBits n v
+
+-- k qubits of two vectors of n from qubit q on: the sum modulo 2 of u's x times v's z and u's z times v's x
+abbrev pub pairingFrom : ℕ → ℕ → ℕ → ℕ → ℕ → Bool
+pairingFrom n u v zero q = false
+pairingFrom n u v (suc k) q = ((bit q u && bit (n + q) v) ⊻ (bit (n + q) u && bit q v)) ⊻ pairingFrom n u v k (suc q)
