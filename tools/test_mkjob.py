@@ -8,7 +8,9 @@ import tempfile
 import unittest
 
 sys.dont_write_bytecode = True
-PATH = os.path.join(os.path.dirname(os.path.abspath(__file__)), "mkjob")
+HERE = os.path.dirname(os.path.abspath(__file__))
+PATH = os.path.join(HERE, "mkjob")
+CHART = os.path.join(HERE, "..", "crates", "chart", "stdout")
 loader = importlib.machinery.SourceFileLoader("mkjob", PATH)
 mkjob = importlib.util.module_from_spec(importlib.util.spec_from_loader("mkjob", loader))
 loader.exec_module(mkjob)
@@ -35,6 +37,15 @@ class Written(unittest.TestCase):
         letters = mkjob.job("qubits 2\nrows\nIX XI\nIZ ZI")
         self.assertEqual(letters, mkjob.job("qubits 2\nrows\n0x2 0x1 0x8 0x4"))
         self.assertEqual(letters[4:12], bytes([0, 0, 4, 0, 12, 0, 0, 0]))
+
+    def test_the_letters_pair_as_the_chart_says(self):
+        def pairing(a, b):
+            return (a[0] & b[1]) ^ (a[1] & b[0])
+
+        lines = ["  " + " ".join(mkjob.LETTERS)]
+        lines += [" ".join([c] + [str(pairing(a, b)) for b in mkjob.LETTERS.values()]) for c, a in mkjob.LETTERS.items()]
+        with open(CHART, encoding="ascii") as f:
+            self.assertEqual(f.read().splitlines(), lines)
 
     def test_y_sets_both_bits(self):
         self.assertEqual(mkjob.job("qubits 1\nrows\nY")[12:], bytes([3] + [0] * 7))

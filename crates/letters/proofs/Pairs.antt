@@ -19,7 +19,7 @@ use Rattle.letters.specs.inner.Rows.{under}
 
 -- ---- two letters
 
-pub letter-bits : (x z : Bool) → bits (letter x z) ≡ (x, z)
+letter-bits : (x z : Bool) → bits (letter x z) ≡ (x, z)
 unfolding letter
 letter-bits true true = refl
 letter-bits true false = refl
