@@ -46,6 +46,7 @@ fn row(a: Letter) -> [u8; LINE]
     line(letters::byte(a), i, x, y, z)
 }
 
+// Whether a line was written.
 fn written(line: [u8; LINE]) -> bool {
     io::write_all(STDOUT_FILENO, &line)
 }

@@ -13,7 +13,7 @@ pub enum Letter {
     Z,
 }
 
-// What stands under b in a row of the chart: 0 under I, and the row's own under X, Y and Z.
+// What stands under b in a row of the chart: 0 under I, and what the row has under X, Y and Z.
 fn under(b: Letter, x: bool, y: bool, z: bool) -> bool
     ensures { λ r. ⌜ r ≡ underOf b x y z ⌝ }
 {
@@ -25,7 +25,7 @@ fn under(b: Letter, x: bool, y: bool, z: bool) -> bool
     }
 }
 
-// The commutation chart, row by row: I pairs to 0 with all, equal letters to 0, two different letters other than I to 1.
+// The commutation chart, row by row, true for 1: I pairs to 0 with all, equal letters to 0, two different letters other than I to 1.
 pub fn chart(a: Letter, b: Letter) -> bool
     ensures { λ r. ⌜ r ≡ pairing 1 (vector a) (vector b) ⌝ }
 {
