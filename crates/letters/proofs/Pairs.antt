@@ -4,8 +4,8 @@ use mathlib.Core.Path.{_≡_, refl, sym, ap, ap₂, _∙_}
 use mathlib.Core.Bool.{Bool, true, false, _&&_}
 use mathlib.Core.List.{foldr, zipWith}
 use Prim.Native.Nat.{ℕ, zero, suc, _+_}
-use Rattle.binar.specs.Bits.{_⊻_, digit, odd, bit}
-use Rattle.binar.proofs.Digits.{odd-digit, half-digit, odd-zero, odd-one, bit-suc}
+use Rattle.binar.specs.Bits.{_⊻_, digit, bit}
+use Rattle.binar.proofs.Digits.{odd-digit, half-digit, odd-bit, bit-suc}
 use Rattle.binar.proofs.Sums.{bit-zero-is-odd}
 use Rattle.linear.proofs.Instances.{𝔹}
 use Rattle.linear.proofs.Sums.{add-zero}
@@ -13,9 +13,7 @@ use Rattle.symplectic.specs.Turns.{pairing}
 use Rattle.symplectic.specs.inner.Vectors.{pairingFrom}
 use Rattle.symplectic.proofs.Qubits.{pairing-from}
 use Rattle.letters.specs.declared.Letter.{Letter}
-use Rattle.letters.specs.declared.Letter.the-variants.{I, X, Y, Z}
 use Rattle.letters.specs.Letters.{bits, letter, vector, chart, lettersFrom, letters}
-use Rattle.letters.specs.inner.Rows.{under}
 
 -- ---- two letters
 
@@ -32,32 +30,17 @@ vector-x l = bit-zero-is-odd (vector l) ∙ odd-digit (bits l .0) (digit (bits l
 
 vector-z : (l : Letter) → bit 1 (vector l) ≡ bits l .1
 unfolding vector
-vector-z l = bit-suc 0 (vector l) ∙ ap (bit 0) (half-digit (bits l .0) (digit (bits l .1))) ∙ bit-zero-is-odd (digit (bits l .1)) ∙ alone (bits l .1)
-  where
-    alone : (b : Bool) → odd (digit b) ≡ b
-    alone true = odd-one
-    alone false = odd-zero
+vector-z l = bit-suc 0 (vector l) ∙ ap (bit 0) (half-digit (bits l .0) (digit (bits l .1))) ∙ bit-zero-is-odd (digit (bits l .1)) ∙ odd-bit (bits l .1)
 
 -- x with z, and z with x
-abbrev pub crosswise : Letter → Letter → Bool
-crosswise a b = (bits a .0 && bits b .1) ⊻ (bits a .1 && bits b .0)
+abbrev pub crosswise : Bool × Bool → Bool × Bool → Bool
+crosswise a b = (a .0 && b .1) ⊻ (a .1 && b .0)
 
-pub chart-bits : (a b : Letter) → chart a b ≡ crosswise a b
+pub chart-bits : (a b : Letter) → chart a b ≡ crosswise (bits a) (bits b)
 chart-bits a b =
     pairing-from 1 (vector a) (vector b)
     ∙ add-zero 𝔹 ((bit 0 (vector a) && bit 1 (vector b)) ⊻ (bit 1 (vector a) && bit 0 (vector b)))
     ∙ ap₂ _⊻_ (ap₂ _&&_ (vector-x a) (vector-z b)) (ap₂ _&&_ (vector-z a) (vector-x b))
-
--- the row of a letter, whatever stands under b
-pub row-of : (a b : Letter) → under b (crosswise a X) (crosswise a Y) (crosswise a Z) ≡ chart a b
-row-of a I = sym (chart-bits a I ∙ ap₂ _⊻_ (none (bits a .0)) (none (bits a .1)))
-  where
-    none : (b : Bool) → b && false ≡ false
-    none true = refl
-    none false = refl
-row-of a X = sym (chart-bits a X)
-row-of a Y = sym (chart-bits a Y)
-row-of a Z = sym (chart-bits a Z)
 
 -- ---- two vectors
 
@@ -65,9 +48,8 @@ pub pairing-chart : (n u v : ℕ) → pairing n u v ≡ foldr _⊻_ false (zipWi
 unfolding letters lettersFrom zipWith
 pairing-chart n u v = pairing-from n u v ∙ from n 0
   where
-    qubit : (x z s t : Bool) → (x && t) ⊻ (z && s) ≡ chart (letter x z) (letter s t)
-    qubit x z s t =
-        sym (chart-bits (letter x z) (letter s t) ∙ ap₂ (λ a b. (a .0 && b .1) ⊻ (a .1 && b .0)) (letter-bits x z) (letter-bits s t))
+    qubit : (x z s t : Bool) → crosswise (x, z) (s, t) ≡ chart (letter x z) (letter s t)
+    qubit x z s t = sym (chart-bits (letter x z) (letter s t) ∙ ap₂ crosswise (letter-bits x z) (letter-bits s t))
 
     from : (k q : ℕ) → pairingFrom n u v k q ≡ foldr _⊻_ false (zipWith chart (lettersFrom n u k q) (lettersFrom n v k q))
     from zero q = refl

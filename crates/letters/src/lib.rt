@@ -3,7 +3,6 @@
 ghost use mathlib.Core.Path.{_≡_};
 ghost use Rattle.symplectic.specs.Turns.{pairing};
 ghost use Rattle.letters.specs.Letters.{letter, vector, byte as byteOf};
-ghost use Rattle.letters.specs.inner.Rows.{under as underOf};
 
 // A letter: a Pauli matrix without its sign.
 pub enum Letter {
@@ -13,27 +12,30 @@ pub enum Letter {
     Z,
 }
 
-// What stands under b in a row of the chart: 0 under I, and what the row has under X, Y and Z.
-fn under(b: Letter, x: bool, y: bool, z: bool) -> bool
-    ensures { λ r. ⌜ r ≡ underOf b x y z ⌝ }
-{
-    match b {
-        Letter::I => false,
-        Letter::X => x,
-        Letter::Y => y,
-        Letter::Z => z,
-    }
-}
-
-// The commutation chart, row by row, true for 1: I pairs to 0 with all, equal letters to 0, two different letters other than I to 1.
+// The commutation chart, case by case, true for 1: I pairs to 0 with all, equal letters to 0, two different letters other than I to 1.
 pub fn chart(a: Letter, b: Letter) -> bool
     ensures { λ r. ⌜ r ≡ pairing 1 (vector a) (vector b) ⌝ }
 {
     match a {
         Letter::I => false,
-        Letter::X => under(b, false, true, true),
-        Letter::Y => under(b, true, false, true),
-        Letter::Z => under(b, true, true, false),
+        Letter::X => match b {
+            Letter::I => false,
+            Letter::X => false, // equal
+            Letter::Y => true, // X and Y
+            Letter::Z => true, // X and Z
+        },
+        Letter::Y => match b {
+            Letter::I => false,
+            Letter::X => true, // X and Y
+            Letter::Y => false, // equal
+            Letter::Z => true, // Y and Z
+        },
+        Letter::Z => match b {
+            Letter::I => false,
+            Letter::X => true, // X and Z
+            Letter::Y => true, // Y and Z
+            Letter::Z => false, // equal
+        },
     }
 }
 

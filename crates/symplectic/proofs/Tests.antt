@@ -1,7 +1,7 @@
 -- A test and those behind it; tests of all members, one by one: true so far, one member more, and a member that fails. Then the test of an action's rows.
 -- Assumes nothing.
 use mathlib.Core.Path.{_≡_, refl, sym, ap, ap₂, _∙_}
-use mathlib.Core.Bool.{Bool, true, false, _&&_, Bool·beq, and-eq-true-iff}
+use mathlib.Core.Bool.{Bool, true, false, _&&_, Bool·beq, and-eq-true-iff, and-false}
 use mathlib.Core.List.{List, [], _∷_, zip, zipWith}
 use Prim.Native.Nat.{ℕ, zero, suc, _+_, _^_, _≤_, _<_, min}
 use native.Mathlib.Nat.{le-of-suc-le-suc, not-suc-le-zero}
@@ -50,10 +50,6 @@ module _ {A : Type 0} (f : A → Bool) (d : A) where
   all-fails [] i h e = absurd (not-suc-le-zero h)
   all-fails (x ∷ l) zero h e = ap (λ (b : Bool). b && allOf f l) (sym e)
   all-fails (x ∷ l) (suc i) h e = sym (and-false (f x)) ∙ ap (λ (b : Bool). f x && b) (all-fails l i (le-of-suc-le-suc h) e)
-    where
-      and-false : (b : Bool) → b && false ≡ false
-      and-false true = refl
-      and-false false = refl
 
 -- every member has passed
 pub all-end : {A : Type 0} (f : A → Bool) (l : List A) (i : ℕ) → length l ≤ i → allOf f (take i l) ≡ true → true ≡ allOf f l
