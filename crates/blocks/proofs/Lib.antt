@@ -3,3 +3,4 @@ pub mod Products
 pub mod Units
 pub mod Values
 pub mod Firsts
+pub mod Lent

@@ -4,11 +4,11 @@ use binar::Row;
 ghost use mathlib.Core.Path.{_≡_};
 ghost use mathlib.Core.List.{[], _∷_, _++_, map};
 ghost use Prim.Native.Nat.{_+_, _%_, _<_, min};
-ghost use lib.ListN.{take, drop, length};
+ghost use lib.ListN.{length, getD, set, take, drop};
 ghost use Rattle.binar.specs.Rows.{val, rowBound};
 ghost use Rattle.blocks.specs.Blocks.{room, rowsOf};
 ghost use Rattle.blocks.specs.Matrices.{times as timesOf, matmul, units};
-ghost use Rattle.blocks.specs.Words.{rowsOfWords, wordOf, laid};
+ghost use Rattle.blocks.specs.Words.{rowsOfWords, wordOf, laid, rowsIn, wordsFor};
 
 // How many rows a block has room for.
 pub const ROOM: usize = 65;
@@ -98,7 +98,7 @@ pub fn identity(m: usize) -> Block
 }
 
 // The sum of the rows that c has ones for.
-fn times(c: Row, b: Block) -> Row
+fn times_block(c: Row, b: Block) -> Row
     ensures { λ r. ⌜ val r ≡ timesOf (val c) (rowsOf b) ⌝ }
 {
     let k = length_of(b);
@@ -118,7 +118,7 @@ pub fn product(a: Block, b: Block) -> Block
     let k = length_of(a);
     let mut n = empty();
     for i in 0..k {
-        n.rows[i] = times(a.rows[i], b);
+        n.rows[i] = times_block(a.rows[i], b);
     }
     n.count = k;
     n
@@ -151,5 +151,63 @@ pub fn store(n: u64, b: Block, out: &mut [u64])
     let k = lesser(length_of(b), out.len());
     for i in 0..k {
         out[i] = word(b.rows[i]);
+    }
+}
+
+// How many rows words that are lent for work hold.
+pub fn rows_in(w: &[u64]) -> usize
+    ensures { λ r. ⌜ r ≡ length (rowsIn (now (w .entry))) ⌝ }
+{
+    w.len()
+}
+
+// Where row k of such words begins; their end where they hold fewer.
+pub fn start(w: &[u64], k: usize) -> usize
+    ensures { λ r. ⌜ r ≡ min (wordsFor k) (length (now (w .entry))) ⌝ }
+{
+    lesser(k, w.len())
+}
+
+// Row i of such words; zero where they hold fewer.
+pub fn row(w: &[u64], i: usize) -> Row
+    ensures { λ r. ⌜ val r ≡ getD (rowsIn (now (w .entry))) i 0 ⌝ }
+{
+    if i < w.len() {
+        binar::of_word(w[i])
+    } else {
+        binar::zero()
+    }
+}
+
+// Puts a row at i of such words, where they hold as many.
+pub fn put(w: &mut [u64], i: usize, v: Row)
+    ensures { λ r. ⌜ rowsIn (now (w .exit)) ≡ set (rowsIn (now (w .entry))) i (val v) ⌝ }
+{
+    if i < w.len() {
+        w[i] = binar::word_of(v);
+    }
+}
+
+// The sum of the rows of such words that c has ones for.
+pub fn times(c: Row, w: &[u64]) -> Row
+    ensures { λ r. ⌜ val r ≡ timesOf (val c) (rowsIn (now (w .entry))) ⌝ }
+{
+    let mut s = binar::zero();
+    let mut bits = binar::low(c, rows_in(w));
+    while !binar::is_zero(bits) {
+        let t = binar::lowest(bits);
+        s = binar::sum(s, row(w, t));
+        bits = binar::sum(bits, binar::unit(t));
+    }
+    s
+}
+
+// The product of such rows, each row of a times b, laid into lent words as rows of n qubits.
+pub fn multiply(n: u64, a: &[u64], b: &[u64], out: &mut [u64])
+    ensures { λ r. ⌜ now (out .exit) ≡ laid n (matmul (rowsIn (now (a .entry))) (rowsIn (now (b .entry)))) (now (out .entry)) ⌝ }
+{
+    let k = lesser(rows_in(a), out.len());
+    for i in 0..k {
+        out[i] = word(times(row(a, i), b));
     }
 }

@@ -30,14 +30,14 @@ loop-holds c =
     let h = rows-fit (c .before .before .args .t1) (search (needs, unmapped)) in
     (search needs, omega (arith, c .before .length-of .ensures), search (needs, unmapped), refl)
 
-mul-times : tie.Need-mul-times Inv-loop μ-loop
-mul-times c = search needs
+mul-times-block : tie.Need-mul-times-block Inv-loop μ-loop
+mul-times-block c = search needs
 
-element-copy-out-times : tie.Need-element-copy-out-times Inv-loop μ-loop
-element-copy-out-times c = search needs
+element-copy-out-times-block : tie.Need-element-copy-out-times-block Inv-loop μ-loop
+element-copy-out-times-block c = search needs
 
-times-requires : tie.Need-times-requires Inv-loop μ-loop
-times-requires c κs = search needs
+times-block-requires : tie.Need-times-block-requires Inv-loop μ-loop
+times-block-requires c κs = search needs
 
 mul-t14 : tie.Need-mul-t14 Inv-loop μ-loop
 mul-t14 c = search needs
@@ -62,8 +62,8 @@ loop-again c =
       search needs,
       at .inv .1,
       simp length-set (at .inv .2),
-      write-next (matmul l m) (at .n .rows) (at .i) (c .times .result) (omega (arith, matmul-length l m)) (omega (arith, at .inv .2)) (at .inv .3)
-          (c .times .ensures ∙ ap (λ (v : ℕ). times v m) (rows-get (s .t1) (at .i) h) ∙ sym (map-get (λ (v : ℕ). times v m) l (at .i) 0 0 h)),
+      write-next (matmul l m) (at .n .rows) (at .i) (c .times-block .result) (omega (arith, matmul-length l m)) (omega (arith, at .inv .2)) (at .inv .3)
+          (c .times-block .ensures ∙ ap (λ (v : ℕ). times v m) (rows-get (s .t1) (at .i) h) ∙ sym (map-get (λ (v : ℕ). times v m) l (at .i) 0 0 h)),
     )
 
 returns : tie.Need-returns Inv-loop μ-loop
@@ -84,9 +84,9 @@ product-spec =
     length-of-requires
     empty-requires
     loop-holds
-    mul-times
-    element-copy-out-times
-    times-requires
+    mul-times-block
+    element-copy-out-times-block
+    times-block-requires
     mul-t14
     element-set-from-n
     add-i

@@ -12,8 +12,7 @@ use Rattle.binar.proofs.Ones.{unit-is}
 use Rattle.binar.proofs.Widths.{val-lt}
 use Rattle.binar.proofs.Sums.{zero-sum}
 use Rattle.binar.specs.Rows.{lowest, val, width, rowBound}
-use Rattle.blocks.proofs.Values.{rows-get}
-use Rattle.blocks.specs.Blocks.{rowsOf}
+use Rattle.blocks.specs.Words.{rowsIn}
 use Rattle.blocks.specs.Matrices.{times}
 use Rattle.binar.specs.Bits.{_⊕_}
 use borrow.Author.Tests.{eqb-true, not-true, not-false}
@@ -22,20 +21,20 @@ use Rattle.blocks.proofs.times.Statement.{statement}
 use Rattle.blocks.proofs.times.Tie as tie
 
 abbrev Inv-loop : tie.InvT-loop
-Inv-loop b k w₀ bits₀ w bits =
-    (val bits < rowBound) × (val bits < 2 ^ length (rowsOf b)) × (val w ⊕ times (val bits) (rowsOf b) ≡ times (val bits₀) (rowsOf b))
+Inv-loop w s₀ bits₀ s bits =
+    (val bits < rowBound) × (val bits < 2 ^ length (rowsIn w)) × (val s ⊕ times (val bits) (rowsIn w) ≡ times (val bits₀) (rowsIn w))
 
 abbrev μ-loop : tie.MeasureT-loop
-μ-loop b k w₀ bits₀ w bits = val bits
+μ-loop w s₀ bits₀ s bits = val bits
 
 -- the lowest one of what is left
 low : (c : tie.Then1 Inv-loop μ-loop)
-    → (lowest (val (c .before .before .loop .bits)) < width) × (lowest (val (c .before .before .loop .bits)) < length (rowsOf (c .before .before .before .before .before .before .args .t2)))
+    → (lowest (val (c .before .before .loop .bits)) < width) × (lowest (val (c .before .before .loop .bits)) < length (rowsIn (c .before .before .before .before .before .before .before .args .w .now)))
     × (val (c .before .before .loop .bits) ⊕ 2 ^ lowest (val (c .before .before .loop .bits)) < val (c .before .before .loop .bits))
 low c =
     let at = c .before .before .loop in
     let off : c .before .is-zero .result ≡ false = not-true (c .before .is-zero .result) (c .if1 .taken) in
-    lowest-row (length (rowsOf (c .before .before .before .before .before .before .args .t2))) (val (at .bits)) (sym (c .before .is-zero .ensures) ∙ off) (at .inv .0) (at .inv .1)
+    lowest-row (length (rowsIn (c .before .before .before .before .before .before .before .args .w .now))) (val (at .bits)) (sym (c .before .is-zero .ensures) ∙ off) (at .inv .0) (at .inv .1)
 
 -- what is left once it is taken out
 out : (c : tie.After-sum2 Inv-loop μ-loop) → val (c .sum2 .result) ≡ val (c .before .before .before .before .before .before .before .loop .bits) ⊕ 2 ^ c .before .before .before .before .lowest .result
@@ -49,23 +48,23 @@ less c =
     let x = val (c .before .before .before .before .before .before .before .loop .bits) in
     subst (λ (y : ℕ). y < x) (sym (out c ∙ ap (λ (t : ℕ). x ⊕ 2 ^ t) (c .before .before .before .before .lowest .ensures))) (low (c .before .before .before .before .before) .2)
 
-length-of-requires : tie.Need-length-of-requires Inv-loop μ-loop
-length-of-requires c κs = search needs
-
 zero-requires : tie.Need-zero-requires Inv-loop μ-loop
 zero-requires c κs = search needs
+
+rows-in-requires : tie.Need-rows-in-requires Inv-loop μ-loop
+rows-in-requires c κs = search needs
 
 low-requires : tie.Need-low-requires Inv-loop μ-loop
 low-requires c κs = search needs
 
 loop-holds : tie.Need-loop-holds Inv-loop μ-loop
 loop-holds c =
-    let s = c .before .before .before .args in
-    let rows = rowsOf (s .t2) in
-    let e = c .low .ensures ∙ ap (λ (k : ℕ). val (s .c) % 2 ^ k) (c .before .before .length-of .ensures) in (
+    let s = c .before .before .before .before .args in
+    let rows = rowsIn (s .w .now) in
+    let e = c .low .ensures ∙ ap (λ (k : ℕ). val (s .c) % 2 ^ k) (c .before .rows-in .ensures) in (
       search (needs, val-lt),
       subst (λ (x : ℕ). x < 2 ^ length rows) (sym e) (mod-lt (val (s .c)) (pow-pos (length rows))),
-      ap (λ (x : ℕ). x ⊕ times (val (c .low .result)) rows) (c .before .zero .ensures) ∙ zero-sum (times (val (c .low .result)) rows),
+      ap (λ (x : ℕ). x ⊕ times (val (c .low .result)) rows) (c .before .before .zero .ensures) ∙ zero-sum (times (val (c .low .result)) rows),
     )
 
 is-zero-requires : tie.Need-is-zero-requires Inv-loop μ-loop
@@ -74,11 +73,8 @@ is-zero-requires c κs = search needs
 lowest-requires : tie.Need-lowest-requires Inv-loop μ-loop
 lowest-requires c κs = search needs
 
-mul-sum : tie.Need-mul-sum Inv-loop μ-loop
-mul-sum c = omega (arith, c .lowest .ensures, low (c .before) .0)
-
-element-copy-out-sum : tie.Need-element-copy-out-sum Inv-loop μ-loop
-element-copy-out-sum c = omega (arith, c .lowest .ensures, low (c .before) .0)
+row-requires : tie.Need-row-requires Inv-loop μ-loop
+row-requires c κs = search needs
 
 sum-requires : tie.Need-sum-requires Inv-loop μ-loop
 sum-requires c κs = search needs
@@ -95,28 +91,28 @@ loop-less c =
 
 loop-again : tie.Need-loop-again Inv-loop μ-loop
 loop-again c =
-    let s = c .before .before .before .before .before .before .before .before .before .before .before .args in
+    let s = c .before .before .before .before .before .before .before .before .before .before .before .before .args in
     let at = c .before .before .before .before .before .before .before .loop in
     let t = c .before .before .before .before .lowest .result in
-    let rows = rowsOf (s .t2) in
+    let rows = rowsIn (s .w .now) in
     let h = less c in (
       omega (arith, at .inv .0),
       omega (arith, at .inv .1),
       ap₂ (λ (x y : ℕ). x ⊕ times y rows)
-          (c .before .before .sum .ensures ∙ ap (λ (x : ℕ). val (at .w) ⊕ x) (rows-get (s .t2) t (omega (arith, c .before .before .before .before .lowest .ensures, low (c .before .before .before .before .before) .1))))
+          (c .before .before .sum .ensures ∙ ap (λ (x : ℕ). val (at .s) ⊕ x) (c .before .before .before .row .ensures))
           (out c)
-          ∙ times-next rows t (val (at .w)) (val (at .bits)) (times (val (c .before .before .before .before .before .before .before .before .low .result)) rows) (at .inv .2),
+          ∙ times-next rows t (val (at .s)) (val (at .bits)) (times (val (c .before .before .before .before .before .before .before .before .low .result)) rows) (at .inv .2),
     )
 
 returns : tie.Need-returns Inv-loop μ-loop
 returns c =
-    let s = c .before .before .before .before .before .before .args in
+    let s = c .before .before .before .before .before .before .before .args in
     let at = c .before .before .loop in
-    let rows = rowsOf (s .t2) in
+    let rows = rowsIn (s .w .now) in
     let on : c .before .is-zero .result ≡ true = not-false (c .before .is-zero .result) (c .if1 .left) in
     let z = eqb-true (val (at .bits)) 0 (sym (c .before .is-zero .ensures) ∙ on) in
-    times-done rows (val (at .w)) (val (at .bits)) (times (val (c .before .before .before .low .result)) rows) z (at .inv .2)
-    ∙ ap (λ (x : ℕ). times x rows) (c .before .before .before .low .ensures ∙ ap (λ (k : ℕ). val (s .c) % 2 ^ k) (c .before .before .before .before .before .length-of .ensures)) ∙ times-low rows (val (s .c))
+    times-done rows (val (at .s)) (val (at .bits)) (times (val (c .before .before .before .low .result)) rows) z (at .inv .2)
+    ∙ ap (λ (x : ℕ). times x rows) (c .before .before .before .low .ensures ∙ ap (λ (k : ℕ). val (s .c) % 2 ^ k) (c .before .before .before .before .rows-in .ensures)) ∙ times-low rows (val (s .c))
 
 pub times-spec : {M : Type 1} → statement M
 times-spec =
@@ -124,14 +120,13 @@ times-spec =
     (tie.spec
     Inv-loop
     μ-loop
-    length-of-requires
     zero-requires
+    rows-in-requires
     low-requires
     loop-holds
     is-zero-requires
     lowest-requires
-    mul-sum
-    element-copy-out-sum
+    row-requires
     sum-requires
     unit-requires
     sum-requires-2

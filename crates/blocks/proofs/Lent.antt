@@ -1,0 +1,73 @@
+-- Words lent for work: the rows of a part of them, of the whole once a part comes back, and rows put over them one by one.
+-- Assumes nothing.
+use mathlib.Core.Path.{_≡_, refl, sym, ap, ap₂, _∙_}
+use mathlib.Core.List.{List, [], _∷_, _++_, append-nil}
+use Prim.Native.Nat.{ℕ, zero, suc, _+_, _-_, _≤_, _<_, min}
+use native.Mathlib.Omega.{arith}
+use lib.ListN.{length, getD, set, take, drop, length-set, length-append, length-drop, length-take, drop-of-length-le}
+use lib.Seq.{take-all, take-at, length-take-le}
+use Rattle.blocks.specs.Words.{rowsOfWords, rowsIn, wordsFor, over}
+use Rattle.blocks.proofs.Values.{take-counted, laid-more}
+
+-- ---- parts: `to` is where row k begins
+
+take-within : (k : ℕ) (l : List ℕ) → take (min k (length l)) l ≡ take k l
+take-within k l = ap (λ (n : ℕ). take n l) (sym (length-take k l)) ∙ take-counted k l
+
+drop-counted : (k : ℕ) (l : List ℕ) → drop (length (take k l)) l ≡ drop k l
+drop-counted zero l = refl
+drop-counted (suc k) [] = refl
+drop-counted (suc k) (x ∷ l) = drop-counted k l
+
+drop-within : (k : ℕ) (l : List ℕ) → drop (min k (length l)) l ≡ drop k l
+drop-within k l = ap (λ (n : ℕ). drop n l) (sym (length-take k l)) ∙ drop-counted k l
+
+module _ (k to : ℕ) (ws : List ℕ) (at : to ≡ min (wordsFor k) (length ws)) where
+  pub lent-within : to ≤ length ws
+  lent-within = omega arith
+
+  pub lent-front : rowsIn (take to ws) ≡ take k (rowsIn ws)
+  unfolding rowsOfWords wordsFor
+  lent-front = ap (λ (n : ℕ). take n ws) at ∙ take-within k ws
+
+  module _ (n : ℕ) (whole : n ≡ length ws - to) where
+    pub lent-rest : rowsIn (take n (drop to ws)) ≡ drop k (rowsIn ws)
+    unfolding rowsOfWords wordsFor
+    lent-rest = take-all n (drop to ws) (omega (arith, length-drop to ws)) ∙ ap (λ (m : ℕ). drop m ws) at ∙ drop-within k ws
+
+    -- what came back from the rest
+    pub lent-back : (ys : List ℕ) → rowsIn (take to ws ++ (ys ++ drop n (drop to ws))) ≡ take k (rowsIn ws) ++ rowsIn ys
+    unfolding rowsOfWords wordsFor
+    lent-back ys =
+        ap₂ (λ (x y : List ℕ). x ++ (ys ++ y)) (ap (λ (m : ℕ). take m ws) at ∙ take-within k ws) (drop-of-length-le (drop to ws) {i = n} (omega (arith, length-drop to ws)))
+        ∙ ap (λ (y : List ℕ). take k ws ++ y) (append-nil ys)
+
+-- ---- rows put over others
+
+pub over-length : (rows out : List ℕ) → length (over rows out) ≡ length out
+unfolding over
+over-length rows out = length-take (length out) (rows ++ drop (length rows) out) ∙ omega (arith, length-append rows (drop (length rows) out), length-drop (length rows) out)
+
+-- as many as were put
+pub over-front : (rows out : List ℕ) → length rows ≤ length out → take (length rows) (over rows out) ≡ rows
+unfolding over
+over-front rows out h =
+    ap (take (length rows)) (take-all (length out) (rows ++ drop (length rows) out) (omega (arith, length-append rows (drop (length rows) out), length-drop (length rows) out)))
+    ∙ take-at rows (drop (length rows) out) (length rows) refl
+
+-- none so far, one more, and all of them or as many as there is room for
+pub over-none : (rows out : List ℕ) → out ≡ take 0 rows ++ drop 0 out
+over-none rows out = refl
+
+pub over-next : (rows out x : List ℕ) (i v : ℕ) → i < length rows → i < length out → x ≡ take i rows ++ drop i out → v ≡ getD rows i 0
+    → set x i v ≡ take (i + 1) rows ++ drop (i + 1) out
+over-next rows out x i v h g is e = ap₂ (λ (y : List ℕ) (u : ℕ). set y i u) is e ∙ laid-more rows out i h g
+
+pub over-end : (rows out : List ℕ) (k : ℕ) → k ≡ min (length rows) (length out) → take k rows ++ drop k out ≡ over rows out
+unfolding over
+over-end [] out zero e = sym (take-all (length out) out (omega arith))
+over-end [] out (suc k) e = absurd (omega arith)
+over-end (r ∷ rows) [] zero e = refl
+over-end (r ∷ rows) [] (suc k) e = absurd (omega arith)
+over-end (r ∷ rows) (w ∷ out) zero e = absurd (omega arith)
+over-end (r ∷ rows) (w ∷ out) (suc k) e = ap (λ (m : List ℕ). r ∷ m) (over-end rows out k (omega arith))
