@@ -2,13 +2,14 @@
 -- Assumes nothing.
 use mathlib.Core.Path.{_≡_, refl, sym, ap, ap₂, _∙_, subst}
 use mathlib.Core.Bool.{Bool, true, false, true≢false}
-use mathlib.Core.List.{List, [], _∷_, map}
-use Prim.Native.Nat.{ℕ, zero, suc, _<_, suc-le-suc}
-use native.Mathlib.Nat.{zero-lt-suc}
-use lib.ListN.{length, length-map, getD}
+use mathlib.Core.List.{List, [], _∷_, _++_, map}
+use Prim.Native.Nat.{ℕ, zero, suc, _<_, suc-le-suc, zero-le}
+use native.Mathlib.Nat.{zero-lt-suc, not-suc-le-zero}
+use lib.ListN.{length, length-map, getD, take, drop}
 use Rattle.binar.specs.Bits.{_⊻_, select, _⊕_}
 use Rattle.binar.proofs.Sums.{bxor-self}
 use Rattle.blocks.specs.Matrices.{All}
+use Rattle.blocks.proofs.Firsts.{First, first-later}
 use Rattle.blocks.proofs.All.{All·map, All·to-map}
 use Rattle.linear.specs.VectorSpace.{scale}
 use Rattle.linear.specs.Span.{InSpan}
@@ -89,3 +90,11 @@ module _ (f : ℕ → Bool) where
   complement-none (m ∷ bs) h =
       ap₂ (λ b l. dropOrKeep b m (map (λ y. y ⊕ select 0 (f y) m) bs) l) (h zero (zero-lt-suc (length bs)))
       (complement-none bs (λ i l. h (suc i) (suc-le-suc l)))
+
+  -- by the index j of the first member that passes
+  pub complement-at : (bs : List ℕ) (j : ℕ) → First f 0 bs 0 j → complement f bs ≡ take j bs ++ map (λ y. y ⊕ select 0 (f y) (getD bs j 0)) (drop (suc j) bs)
+  unfolding complement
+  complement-at [] j h = absurd (not-suc-le-zero (h .inside))
+  complement-at (m ∷ bs) zero h = ap (λ b. dropOrKeep b m (map (λ y. y ⊕ select 0 (f y) m) bs) (complement f bs)) (h .at)
+  complement-at (m ∷ bs) (suc j) h =
+      ap₂ (λ b l. dropOrKeep b m (map (λ y. y ⊕ select 0 (f y) m) bs) l) (h .before zero zero-le (zero-lt-suc j)) (complement-at bs j (first-later f 0 m bs j h))

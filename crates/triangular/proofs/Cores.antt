@@ -12,13 +12,14 @@ use Rattle.binar.specs.Rows.{val, width}
 use Rattle.binar.specs.inner.Blank.{blank}
 use Rattle.blocks.specs.declared.Block.{Block}
 use Rattle.blocks.specs.Blocks.{vals, rowsOf}
+use Rattle.blocks.specs.Words.{rowsIn}
 use Rattle.blocks.specs.Matrices.{times, matmul}
 use Rattle.blocks.proofs.Values.{vals-get, vals-length}
 use Rattle.blocks.proofs.Products.{times-zero, times-matmul, matmul-is}
 use Rattle.reduction.specs.Residue.{form}
 use Rattle.reduction.proofs.Forms.{form-is}
 use Rattle.triangular.specs.declared.Space.{Space}
-use Rattle.triangular.specs.Readings.{basisOf, formsOf, coreOf}
+use Rattle.triangular.specs.Readings.{basisOf, formsOf, coreOf, coreIn}
 
 -- ---- arrays
 
@@ -60,6 +61,10 @@ form-rows s = refl
 pub core-rows : (b : Block) → coreOf b ≡ take width (rowsOf b)
 unfolding coreOf
 core-rows b = refl
+
+pub core-in : (ws : List ℕ) → coreIn ws ≡ take width (rowsIn ws)
+unfolding coreIn
+core-in ws = refl
 
 pub basis-length : (s : Space) → s .count ≤ length (s .basis) → length (basisOf s) ≡ s .count
 unfolding basisOf

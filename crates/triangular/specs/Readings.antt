@@ -6,6 +6,7 @@ use lib.ListN.{take}
 use Rattle.binar.specs.Rows.{width}
 use Rattle.blocks.specs.declared.Block.{Block}
 use Rattle.blocks.specs.Blocks.{vals, rowsOf}
+use Rattle.blocks.specs.Words.{rowsIn}
 use Rattle.triangular.specs.declared.Space.{Space}
 use Rattle.triangular.specs.declared.Searched.{Searched}
 use Rattle.triangular.specs.declared.Ending.{Ending}
@@ -22,6 +23,10 @@ formsOf s = take (s .count) (vals (s .forms))
 -- the rows of a core: no more of a block's than a row has columns
 unfoldable pub coreOf : Block → List ℕ
 coreOf b = take width (rowsOf b)
+
+-- the rows of a core in lent words, of which no more count than a row has columns
+unfoldable pub coreIn : List ℕ → List ℕ
+coreIn ws = take width (rowsIn ws)
 
 unfoldable pub verdictOf : Ending → ℕ → List ℕ → Verdict
 verdictOf Found looks ps = ended (found ps looks)
