@@ -23,6 +23,11 @@ pub val-lt : (r : Row) → r .word < 2 ^ 64 → val r < rowBound
 unfolding val rowBound
 val-lt r h = h
 
+-- a row is its lowest 64 columns
+pub one-word : (r : Row) → r .word < 2 ^ 64 → val r % 2 ^ 64 ≡ val r
+unfolding val
+one-word r h = mod-eq-of-lt h
+
 -- a row holds each value of no more columns than it has
 pub pow-bound : (k : ℕ) → k ≤ width → 2 ^ k ≤ rowBound
 unfolding rowBound

@@ -3,6 +3,7 @@
 use mathlib.Core.Path.{_≡_, refl, sym, ap, ap₂, _∙_}
 use mathlib.Core.List.{List, [], _∷_, _++_, append-nil}
 use Prim.Native.Nat.{ℕ, zero, suc, _+_, _-_, _≤_, _<_, min}
+use native.Mathlib.Nat.{le-refl}
 use native.Mathlib.Omega.{arith}
 use lib.ListN.{length, getD, set, take, drop, length-set, length-append, length-drop, length-take, drop-of-length-le}
 use lib.Seq.{take-all, take-at, length-take-le}
@@ -42,6 +43,29 @@ module _ (k to : ℕ) (ws : List ℕ) (at : to ≡ min (wordsFor k) (length ws))
         ap₂ (λ (x y : List ℕ). x ++ (ys ++ y)) (ap (λ (m : ℕ). take m ws) at ∙ take-within k ws) (drop-of-length-le (drop to ws) {i = n} (omega (arith, length-drop to ws)))
         ∙ ap (λ (y : List ℕ). take k ws ++ y) (append-nil ys)
 
+-- k rows from row i on
+pub lent-part : (i k from to : ℕ) (ws : List ℕ) → from ≡ min (wordsFor i) (length ws) → to ≡ min (wordsFor (i + k)) (length ws)
+    → rowsIn (take (to - from) (drop from ws)) ≡ take k (drop i (rowsIn ws))
+unfolding rowsOfWords wordsFor
+lent-part i k from to ws f t =
+    let e : to - from ≡ min k (length (drop from ws)) = omega (arith, length-drop from ws) in
+    ap (λ (n : ℕ). take n (drop from ws)) e ∙ take-within k (drop from ws) ∙ ap (take k) (ap (λ (n : ℕ). drop n ws) f ∙ drop-within i ws)
+
+-- a part ends where it begins, or behind
+pub words-mono : (i j : ℕ) → i ≤ j → wordsFor i ≤ wordsFor j
+unfolding wordsFor
+words-mono i j h = h
+
+-- no more rows than words
+pub lent-few : (ws : List ℕ) → length (rowsIn ws) ≤ length ws
+unfolding rowsOfWords
+lent-few ws = le-refl (length ws)
+
+-- as many rows in as many words
+pub lent-same : (a b : List ℕ) → length a ≡ length b → length (rowsIn a) ≡ length (rowsIn b)
+unfolding rowsOfWords
+lent-same a b e = e
+
 -- ---- rows put over others
 
 pub over-length : (rows out : List ℕ) → length (over rows out) ≡ length out
@@ -55,6 +79,10 @@ over-front rows out h =
     ap (take (length rows)) (take-all (length out) (rows ++ drop (length rows) out) (omega (arith, length-append rows (drop (length rows) out), length-drop (length rows) out)))
     ∙ take-at rows (drop (length rows) out) (length rows) refl
 
+pub over-nil : (out : List ℕ) → over [] out ≡ out
+unfolding over
+over-nil out = take-all (length out) out (le-refl (length out))
+
 -- none so far, one more, and all of them or as many as there is room for
 pub over-none : (rows out : List ℕ) → out ≡ take 0 rows ++ drop 0 out
 over-none rows out = refl
@@ -65,7 +93,7 @@ over-next rows out x i v h g is e = ap₂ (λ (y : List ℕ) (u : ℕ). set y i 
 
 pub over-end : (rows out : List ℕ) (k : ℕ) → k ≡ min (length rows) (length out) → take k rows ++ drop k out ≡ over rows out
 unfolding over
-over-end [] out zero e = sym (take-all (length out) out (omega arith))
+over-end [] out zero e = sym (over-nil out)
 over-end [] out (suc k) e = absurd (omega arith)
 over-end (r ∷ rows) [] zero e = refl
 over-end (r ∷ rows) [] (suc k) e = absurd (omega arith)

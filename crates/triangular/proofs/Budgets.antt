@@ -3,26 +3,19 @@
 use mathlib.Core.Path.{_≡_, refl, sym, ap, ap₂, _∙_, subst}
 use mathlib.Core.Logic.{_⊎_, ⊎-elim}
 use mathlib.Core.Bool.{Bool, true, false}
-use mathlib.Core.List.{List, [], _∷_, _++_, reverse, reverse-append}
+use mathlib.Core.List.{List, [], _∷_}
 use Prim.Native.Nat.{ℕ, zero, suc, _+_, _-_, _^_, _≤_, _<_}
 use native.Mathlib.Nat.{le-refl, not-suc-le-zero, lt-of-lt-of-le}
 use native.Mathlib.Numerals.{add-one, sub-one}
 use native.Mathlib.Omega.{arith}
 use borrow.Author.Tests.{lt-leb, le-leb, leb-true, leb-false}
 use lib.Dec.{leb}
-use lib.ListN.{length, length-reverse, take}
-use Rattle.blocks.specs.Blocks.{room, rowsOf}
 use Rattle.blocks.specs.Matrices.{times}
-use Rattle.blocks.proofs.Values.{push-fits}
-use Rattle.linear.specs.Maps.{Form}
-use Rattle.linear.proofs.Instances.{𝕎}
-use Rattle.triangular.specs.declared.Searched.{Searched}
 use Rattle.triangular.specs.declared.Ending.{Ending}
 use Rattle.triangular.specs.declared.Ending.the-variants.{Found, Failed, Spent}
 use Rattle.triangular.specs.Spaces.{complement, isAlternating}
 use Rattle.triangular.specs.Search.{Outcome, found, failed, unlessAlternating, afterRest, draw, draws, search, looksOf, Verdict, ended, spent, endedIf, budgeted}
-use Rattle.triangular.specs.Readings.{verdictOf, seen}
-use Rattle.triangular.proofs.Complete.{Right, search-right}
+use Rattle.triangular.specs.Readings.{verdictOf}
 use Rattle.triangular.proofs.Looks.{Up, after-up, draw-up, draws-up, search-up}
 
 -- ---- the verdict
@@ -55,10 +48,6 @@ module _ (budget : ℕ) where
       go : (b : Bool) → leb (looksOf out) budget ≡ b → spent k ≡ endedIf b out budget → (k ≡ budget) × (budget < looksOf out)
       go true q e = let z : _≡_ {A = ℕ} 0 1 = cc in absurd (omega arith)
       go false q e = (cc, leb-false (looksOf out) budget q)
-
-pub seen-is : (r : Searched) → seen r ≡ verdictOf (r .ending) (r .looks) (rowsOf (r .list))
-unfolding seen
-seen-is r = refl
 
 -- what the code says of its ending
 module _ (v : Ending) (k : ℕ) (l : List ℕ) where
@@ -112,23 +101,12 @@ module _ (budget p : ℕ) (out : Outcome) where
         let f = of-spent budget out k (sym e ∙ ens) in
         e ∙ ap spent (f .0) ∙ sym (spends budget (afterRest p failed out) (lt-of-lt-of-le (f .1) (after-up p failed le-refl out)))
 
-    pub rest-kept : (v ≡ Failed) ⊎ (v ≡ Spent) → verdictOf v k l ≡ budgeted budget (afterRest p failed out)
-    rest-kept is = ⊎-elim rest-failed rest-spent is
-
--- what was found fits a block with p behind it
-module _ (E : Form 𝕎) (budget looks p d : ℕ) (bs : List ℕ) (size : length bs ≡ d) (fits : d < room) where
-  pub rest-pushed : (v : Ending) (k : ℕ) (l m : List ℕ) → verdictOf v k (reverse l) ≡ budgeted budget (search (E .at) d bs looks) → v ≡ Found
-      → m ≡ take room (l ++ (p ∷ [])) → verdictOf Found k (reverse m) ≡ budgeted budget (afterRest p failed (search (E .at) d bs looks))
-  rest-pushed v k l m ens is new =
-      says-found Found k (reverse m) refl
-      ∙ ap (λ x. ended (found x k)) (ap reverse (new ∙ push-fits l p (omega (arith, length-reverse l, all))) ∙ reverse-append l (p ∷ []))
-      ∙ rest-found budget p (search (E .at) d bs looks) (reverse l) k e
-    where
-      e : ended (found (reverse l) k) ≡ budgeted budget (search (E .at) d bs looks)
-      e = sym (says-found v k (reverse l) is) ∙ ens
-
-      all : length (reverse l) ≡ d
-      all = subst (Right E d bs) (sym (of-ended budget (search (E .at) d bs looks) (found (reverse l) k) e .0)) (search-right E d bs looks size) .2
+  -- p stands before what was found
+  pub drawn-before : (v : Ending) (k : ℕ) (l : List ℕ) → verdictOf v k l ≡ budgeted budget out → verdictOf v k (p ∷ l) ≡ budgeted budget (afterRest p failed out)
+  unfolding verdictOf
+  drawn-before Found k l e = rest-found l k e
+  drawn-before Failed k l e = rest-failed Failed k l e refl
+  drawn-before Spent k l e = rest-spent Spent k l e refl
 
 -- ---- a space
 

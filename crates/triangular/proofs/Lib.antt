@@ -1,11 +1,13 @@
 pub mod Complements
-pub mod FormRows
 pub mod Alternates
 pub mod Complete
 pub mod Looks
 pub mod Budgets
+pub mod Verdicts
 pub mod Cores
 pub mod Drawing
-pub mod Dropping
-pub mod Copies
-pub mod Verdicts
+pub mod Grams
+pub mod Shrinks
+pub mod Passing
+pub mod Levels
+pub mod Draws

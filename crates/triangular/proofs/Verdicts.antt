@@ -1,19 +1,26 @@
--- What a search has come to, by its ending.
+-- What a search has come to: its basis where it found one, by its ending.
 -- Assumes nothing.
-use mathlib.Core.Path.{_≡_, _∙_}
-use Rattle.blocks.specs.Blocks.{rowsOf}
-use Rattle.triangular.specs.declared.Searched.{Searched}
+use mathlib.Core.Path.{_≡_, refl, sym, ap, _∙_}
+use mathlib.Core.Logic.{_⊎_, ⊎-elim}
+use mathlib.Core.List.{List, []}
+use Prim.Native.Nat.{ℕ}
+use Rattle.triangular.specs.declared.Ending.{Ending}
 use Rattle.triangular.specs.declared.Ending.the-variants.{Found, Failed, Spent}
-use Rattle.triangular.specs.Search.{found, failed, ended, spent}
-use Rattle.triangular.specs.Readings.{seen}
-use Rattle.triangular.proofs.Budgets.{says-found, says-failed, says-spent, seen-is}
+use Rattle.triangular.specs.Search.{Verdict, found, ended}
+use Rattle.triangular.specs.Readings.{verdictOf, basisFound}
 
-module _ (o : Searched) where
-  pub seen-found : o .ending ≡ Found → seen o ≡ ended (found (rowsOf (o .list)) (o .looks))
-  seen-found e = seen-is o ∙ says-found (o .ending) (o .looks) (rowsOf (o .list)) e
+-- the list of an ending that found one is the verdict's; of another it makes no difference
+module _ (k : ℕ) (l : List ℕ) (v : Verdict) where
+  pub found-basis : (e : Ending) → verdictOf e k l ≡ v → e ≡ Found → basisFound v ≡ l
+  unfolding verdictOf basisFound
+  found-basis e is f = ap basisFound (sym is ∙ ap (λ x. verdictOf x k l) f)
 
-  pub seen-failed : o .ending ≡ Failed → seen o ≡ ended (failed (o .looks))
-  seen-failed e = seen-is o ∙ says-failed (o .ending) (o .looks) (rowsOf (o .list)) e
+  pub no-basis : (e : Ending) → verdictOf e k l ≡ v → (e ≡ Failed) ⊎ (e ≡ Spent) → basisFound v ≡ []
+  unfolding verdictOf basisFound
+  no-basis e is f = ap basisFound (sym is) ∙ ⊎-elim (λ g. ap (λ x. basisFound (verdictOf x k l)) g) (λ g. ap (λ x. basisFound (verdictOf x k l)) g) f
 
-  pub seen-spent : o .ending ≡ Spent → seen o ≡ spent (o .looks)
-  seen-spent e = seen-is o ∙ says-spent (o .ending) (o .looks) (rowsOf (o .list)) e
+  pub verdict-own : (e : Ending) → verdictOf e k l ≡ v → verdictOf e k (basisFound v) ≡ v
+  unfolding verdictOf basisFound
+  verdict-own Found is = ap (λ x. verdictOf Found k (basisFound x)) (sym is) ∙ is
+  verdict-own Failed is = is
+  verdict-own Spent is = is

@@ -1,1 +1,1 @@
-pub mod Backward
+pub mod Levels

@@ -1,12 +1,10 @@
 -- `put`: the word at i is set, and nothing past the end.
 -- Assumes nothing.
 use mathlib.Core.Path.{_≡_, sym, ap, _∙_}
-use native.Mathlib.Nat.{mod-eq-of-lt}
 use lib.ListN.{length, set}
 use lib.Seq.{set-out}
 use Rattle.blocks.specs.Words.{rowsOfWords}
-use Rattle.binar.specs.Rows.{rowBound}
-use Rattle.binar.proofs.Widths.{val-lt}
+use Rattle.binar.proofs.Widths.{one-word}
 use native.Mathlib.Omega.{arith}
 use borrow.Author.Needs.{needs}
 use Rattle.blocks.proofs.put.Statement.{statement}
@@ -25,10 +23,10 @@ same-length : tie.Need-same-length
 same-length c = search needs
 
 returns : tie.Need-returns
-unfolding rowsOfWords rowBound
+unfolding rowsOfWords
 returns c =
     let s = c .before .before .before .args in
-    ap (set (s .w .now) (s .i)) (c .word-of .ensures ∙ mod-eq-of-lt (search (needs, val-lt)))
+    ap (set (s .w .now) (s .i)) (c .word-of .ensures ∙ one-word (s .v) (search needs))
 
 returns-2 : tie.Need-returns-2
 unfolding rowsOfWords

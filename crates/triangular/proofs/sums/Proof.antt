@@ -1,82 +1,49 @@
--- `sums` adds the members from the first on, and their form rows with them, by `summed-next`.
+-- `sums` puts the sum of the first rows behind them, by `summed-more`.
 -- Assumes nothing.
-use mathlib.Core.Path.{_≡_}
-use Prim.Native.Nat.{_-_, _≤_, _<_}
+use mathlib.Core.Path.{_≡_, refl, sym, ap, ap₂, _∙_}
+use Prim.Native.Nat.{ℕ, suc, _+_, _-_, _^_, _≤_, _<_}
+use native.Mathlib.Nat.{le-refl}
+use native.Mathlib.Numerals.{add-one}
 use native.Mathlib.Omega.{arith}
-use lib.ListN.{length, length-set}
-use Rattle.binar.specs.Rows.{width}
-use Rattle.blocks.proofs.Values.{unmapped}
-use Rattle.triangular.specs.Readings.{basisOf, formsOf}
-use Rattle.triangular.proofs.Drawing.{Summed, summed-start, summed-next}
+use lib.ListN.{length, length-set, getD, set, take}
+use lib.Seq.{take-set-le}
+use Rattle.binar.specs.Bits.{_⊕_}
+use Rattle.binar.specs.Rows.{val}
+use Rattle.blocks.specs.Matrices.{times}
+use Rattle.blocks.specs.Words.{rowsIn}
+use Rattle.blocks.proofs.Products.{times-zero}
+use Rattle.triangular.proofs.Drawing.{summed-more}
+use Rattle.triangular.proofs.Levels.{front-row, put-next}
 use borrow.Author.Needs.{needs}
 use Rattle.triangular.proofs.sums.Statement.{statement}
 use Rattle.triangular.proofs.sums.Tie as tie
 
 abbrev Inv-loop : tie.InvT-loop
-Inv-loop t₀ k i₀ t i =
-    (1 ≤ i) × (i ≤ k) × (length (t .basis) ≡ width) × (length (t .forms) ≡ width) × Summed k (t₀ .basis) i (t .basis) × Summed k (t₀ .forms) i (t .forms)
+Inv-loop w₀ d s₀ i₀ w s i = (i ≤ d) × (length w ≡ length w₀) × (length (rowsIn w) ≡ length (rowsIn w₀)) × (take d (rowsIn w) ≡ take d (rowsIn w₀)) × (val s ≡ times (2 ^ i - 1) (take d (rowsIn w₀)))
+    × ((n : ℕ) → n < i → getD (rowsIn w) (d + n) 0 ≡ times (2 ^ suc n - 1) (take d (rowsIn w₀)))
 
 abbrev μ-loop : tie.MeasureT-loop
-μ-loop t₀ k i₀ t i = k - i
+μ-loop w₀ d s₀ i₀ w s i = d - i
+
+zero-requires : tie.Need-zero-requires Inv-loop μ-loop
+zero-requires c κs = search needs
 
 loop-holds : tie.Need-loop-holds Inv-loop μ-loop
 loop-holds c =
-    let s = c .args .s in (
-      search needs,
-      search needs,
-      search (needs, unmapped),
-      search (needs, unmapped),
-      summed-start (s .count) (s .basis) (search needs),
-      summed-start (s .count) (s .forms) (search needs),
-    )
+    let M = take (c .before .before .args .d) (rowsIn (c .before .before .args .w .now)) in
+    (search needs, refl, refl, refl, c .zero .ensures ∙ sym (times-zero M), λ n h. absurd (omega arith))
 
-sub-sum : tie.Need-sub-sum Inv-loop μ-loop
-sub-sum c = search needs
-
-mul-sum : tie.Need-mul-sum Inv-loop μ-loop
-mul-sum c = search needs
-
-element-copy-out-sum : tie.Need-element-copy-out-sum Inv-loop μ-loop
-element-copy-out-sum c = search needs
-
-mul-sum-2 : tie.Need-mul-sum-2 Inv-loop μ-loop
-mul-sum-2 c = search needs
-
-element-copy-out-sum-2 : tie.Need-element-copy-out-sum-2 Inv-loop μ-loop
-element-copy-out-sum-2 c = search needs
+row-requires : tie.Need-row-requires Inv-loop μ-loop
+row-requires c κs = search needs
 
 sum-requires : tie.Need-sum-requires Inv-loop μ-loop
 sum-requires c κs = search needs
 
-mul-t : tie.Need-mul-t Inv-loop μ-loop
-mul-t c = search needs
+add-put : tie.Need-add-put Inv-loop μ-loop
+add-put c = search needs
 
-element-set-from-t : tie.Need-element-set-from-t Inv-loop μ-loop
-element-set-from-t c = search needs
-
-sub-sum-2 : tie.Need-sub-sum-2 Inv-loop μ-loop
-sub-sum-2 c = search needs
-
-mul-sum-3 : tie.Need-mul-sum-3 Inv-loop μ-loop
-mul-sum-3 c = search needs
-
-element-copy-out-sum-3 : tie.Need-element-copy-out-sum-3 Inv-loop μ-loop
-element-copy-out-sum-3 c = search needs
-
-mul-sum-4 : tie.Need-mul-sum-4 Inv-loop μ-loop
-mul-sum-4 c = search needs
-
-element-copy-out-sum-4 : tie.Need-element-copy-out-sum-4 Inv-loop μ-loop
-element-copy-out-sum-4 c = search needs
-
-sum-requires-2 : tie.Need-sum-requires-2 Inv-loop μ-loop
-sum-requires-2 c κs = search needs
-
-mul-t8 : tie.Need-mul-t8 Inv-loop μ-loop
-mul-t8 c = search needs
-
-element-set-from-t-2 : tie.Need-element-set-from-t-2 Inv-loop μ-loop
-element-set-from-t-2 c = search needs
+put-requires : tie.Need-put-requires Inv-loop μ-loop
+put-requires c κs = search needs
 
 add-i : tie.Need-add-i Inv-loop μ-loop
 add-i c = search needs
@@ -86,23 +53,31 @@ loop-less c = search needs
 
 loop-again : tie.Need-loop-again Inv-loop μ-loop
 loop-again c =
-    let at = c .before .before .before .before .before .before .before .loop in
-    let s = c .before .before .before .before .before .before .before .before .args .s in
-    let i = at .i in
-    let h : i < s .count = search needs in (
+    let at = c .before .before .before .before .before .before .before .before .loop in
+    let s = c .before .before .before .before .before .before .before .before .before .before .before .args in
+    let M = take (s .d) (rowsIn (s .w .now)) in
+    let l : at .i < s .d = search needs in
+    let w = rowsIn (at .w) in
+    let v = val (c .before .before .before .before .sum .result) in
+    let sum = c .before .before .before .before .sum .ensures ∙ ap₂ _⊕_ (at .inv .4) (c .before .before .before .before .before .row .ensures ∙ front-row (s .d) (s .d) w (rowsIn (s .w .now)) (at .inv .3) (le-refl (s .d)) (at .i) l) ∙ summed-more M (at .i) in
+    let put = c .before .before .put .ensures in (
       search needs,
       search needs,
-      simp length-set (at .inv .2),
-      simp length-set (at .inv .3),
-      summed-next (s .count) (s .basis) i (at .t .basis) (at .inv .0) h (omega (arith, at .inv .2)) (at .inv .4) (c .before .before .before .sum .result) (c .before .before .before .sum .ensures),
-      summed-next (s .count) (s .forms) i (at .t .forms) (at .inv .0) h (omega (arith, at .inv .3)) (at .inv .5) (c .sum2 .result) (c .sum2 .ensures),
+      ap length put ∙ length-set w (s .d + at .i) v ∙ at .inv .2,
+      ap (take (s .d)) put ∙ take-set-le (s .d) w (s .d + at .i) v (omega arith) ∙ at .inv .3,
+      sum ∙ ap (λ k. times (2 ^ k - 1) M) (sym (add-one (at .i))),
+      λ n h. ap (λ x. getD x (s .d + n) 0) put
+          ∙ put-next (s .d) (λ n. times (2 ^ suc n - 1) M) w (at .i) v (omega (arith, at .inv .2, c .before .before .before .before .before .before .before .before .before .before .before .pre .1)) (at .inv .5) sum n h,
     )
 
+same-length : tie.Need-same-length Inv-loop μ-loop
+same-length c = search needs
+
 returns : tie.Need-returns Inv-loop μ-loop
-unfolding basisOf formsOf
 returns c =
     let at = c .before .loop in
-    λ i h. (at .inv .4 .0 i (omega arith), at .inv .5 .0 i (omega arith))
+    let e : at .i ≡ c .before .before .before .before .args .d = omega arith in
+    (at .inv .3, λ n h. at .inv .5 n (omega arith))
 
 pub sums-spec : {M : Type 1} → statement M
 sums-spec =
@@ -110,24 +85,14 @@ sums-spec =
     (tie.spec
     Inv-loop
     μ-loop
+    zero-requires
     loop-holds
-    sub-sum
-    mul-sum
-    element-copy-out-sum
-    mul-sum-2
-    element-copy-out-sum-2
+    row-requires
     sum-requires
-    mul-t
-    element-set-from-t
-    sub-sum-2
-    mul-sum-3
-    element-copy-out-sum-3
-    mul-sum-4
-    element-copy-out-sum-4
-    sum-requires-2
-    mul-t8
-    element-set-from-t-2
+    add-put
+    put-requires
     add-i
     loop-less
     loop-again
+    same-length
     returns)

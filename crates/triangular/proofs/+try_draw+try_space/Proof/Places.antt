@@ -1,256 +1,166 @@
--- Where `try_draw` and `try_space` stand, and what is known there: measures, the rest of a draw, the loop's invariant, the vector drawn and its form row.
+-- Where `try_space` stands, and what is known there: the coefficients that come next, the sum of their Gram rows, and the space as its draws begin.
 -- Assumes nothing.
 use mathlib.Core.Path.{_≡_, refl, sym, ap, ap₂, _∙_}
 use mathlib.Core.Bool.{Bool}
-use mathlib.Core.Logic.{_⊎_, inl, inr, ⊎-elim}
 use mathlib.Core.List.{List}
-use native.Mathlib.Omega.{arith}
+use Prim.Native.Nat.{ℕ, suc, _+_, _-_, _^_, _≤_, _<_}
 use native.Mathlib.Nat.{pos-of-ne-zero}
+use native.Mathlib.Omega.{arith}
 use borrow.Author.Needs.{needs}
-use borrow.Author.Tests.{ltb-true}
-use lib.ListN.{length, getD}
-use Prim.Native.Nat.{ℕ, suc, _+_, _-_, _*_, _^_, _≤_, _<_}
-use Rattle.binar.specs.declared.Row.{Row}
+use borrow.Author.Tests.{ltb-true, ltb-false}
+use lib.ListN.{length, getD, take}
 use Rattle.binar.specs.Bits.{_⊕_, dot}
-use Rattle.binar.specs.Rows.{width, val, lowest}
-use Rattle.binar.specs.inner.Blank.{blank}
-use Rattle.blocks.specs.Matrices.{times, matmul}
-use Rattle.blocks.proofs.Values.{vals-get, unmapped}
+use Rattle.binar.specs.Rows.{val, lowest}
+use Rattle.blocks.specs.Matrices.{times}
+use Rattle.blocks.specs.Words.{rowsIn}
+use Rattle.blocks.proofs.Lent.{lent-few, lent-same}
+use Rattle.blocks.proofs.Products.{times-zero}
 use Rattle.reduction.specs.Residue.{form}
-use Rattle.triangular.specs.Spaces.{complement}
-use Rattle.triangular.specs.Search.{Outcome, failed, afterRest, draws, search as searchOf, Verdict, budgeted}
-use Rattle.triangular.specs.Readings.{basisOf, formsOf}
-use Rattle.triangular.specs.inner.Backward.{seenBack}
-use Rattle.triangular.proofs.Cores.{basis-length, core-drawn, form-dot, form-row as form-of-row}
-use Rattle.triangular.proofs.FormRows.{complement-forms}
-use Rattle.triangular.proofs.Drawing.{next-is, next-column, next-drawn}
-use denote.Enum.Declared.{tagOf}
-use borrow.Fn.Kinds.{In}
-use borrow.Fn.PlainCycle.{Measures, is, falls, and}
-use Rattle.triangular.specs.declared.Ending.{Ending}
-use Rattle.triangular.specs.declared.Ending.the-variants.{Found, Failed, Spent}
-use Rattle.triangular.proofs.Ending.{the-type}
-use Rattle.triangular.proofs.try_draw.Reads as try-draw
-use Rattle.triangular.proofs.try_draw.Kinds as try-draw-kinds
-use Rattle.triangular.proofs.+try_draw+try_space.Lts-try_draw as try-draw-lts
+use Rattle.triangular.specs.Spaces.{isAlternating}
+use Rattle.triangular.specs.Search.{found, ended, search as searchOf, budgeted}
+use Rattle.triangular.specs.Readings.{verdictOf}
+use Rattle.triangular.specs.inner.Levels.{levels, gramOf}
+use Rattle.triangular.proofs.Budgets.{space-empty, space-alternating, space-begun, at-end, at-stop}
+use Rattle.triangular.proofs.Drawing.{ones-last, next-is, next-column, next-drawn}
+use Rattle.triangular.proofs.Grams.{gram-self}
+use Rattle.triangular.proofs.Levels.{levels-least, front-get, found-none}
 use Rattle.triangular.proofs.try_space.Reads as try-space
-use Rattle.triangular.proofs.try_space.Kinds as try-space-kinds
 use Rattle.triangular.proofs.+try_draw+try_space.Lts-try_space as try-space-lts
-use Rattle.binar.proofs.dot.Reads as dot-reads
-use Rattle.binar.proofs.less.Reads as less-reads
-use Rattle.binar.proofs.low_ones.Reads as low-ones-reads
-use Rattle.binar.proofs.lowest.Reads as lowest-reads
-use Rattle.binar.proofs.next.Reads as next-reads
-use Rattle.binar.proofs.sum.Reads as sum-reads
-use Rattle.binar.proofs.zero.Reads as zero-reads
-use Rattle.blocks.proofs.push.Reads as push-reads
-use Rattle.triangular.proofs.without_list.Reads as without-list-reads
-use Rattle.triangular.proofs.is_alternating.Reads as is-alternating-reads
-use Rattle.triangular.proofs.first_dot.Reads as first-dot-reads
-use Rattle.triangular.proofs.dropped.Reads as dropped-reads
-use Rattle.triangular.proofs.sums.Reads as sums-reads
+use Rattle.triangular.proofs.+try_draw+try_space.Proof.Claims.{try-space-at, space-claims, try-space-Inv-loop, try-space-μ-loop}
 
-abbrev pub μ-try-draw : Measures 0 try-draw-kinds.ps ℕ
-μ-try-draw κs a = 2 * a .0 .count
-
-abbrev pub μ-try-space : Measures 0 try-space-kinds.ps ℕ
-μ-try-space κs a = 2 * a .0 .count + 1
-
-abbrev pub try-draw-at : ℕ → In 0 try-draw-kinds.ps
-try-draw-at t = and 0 try-draw-kinds.ps (is 0 try-draw-kinds.ps μ-try-draw t) try-draw.Pre
-
-abbrev try-draw-below : ℕ → In 0 try-draw-kinds.ps
-try-draw-below t =
-    and 0 try-draw-kinds.ps (falls 0 try-draw-kinds.ps _<_ μ-try-draw t) try-draw.Pre
-
-abbrev pub try-space-at : ℕ → In 0 try-space-kinds.ps
-try-space-at t = and 0 try-space-kinds.ps (is 0 try-space-kinds.ps μ-try-space t) try-space.Pre
-
-abbrev try-space-below : ℕ → In 0 try-space-kinds.ps
-try-space-below t =
-    and 0 try-space-kinds.ps (falls 0 try-space-kinds.ps _<_ μ-try-space t) try-space.Pre
-
--- what the functions called ask and ensure
-abbrev pub draw-claims : ℕ → try-draw-lts.Claims
-draw-claims t = (first-dot-reads.Asked, first-dot-reads.Learnt, dropped-reads.Asked, dropped-reads.Learnt, try-space-below t, try-space.Post, push-reads.Asked, push-reads.Learnt)
-
-abbrev pub space-claims : ℕ → try-space-lts.Claims
-space-claims t = (
-  without-list-reads.Asked,
-  without-list-reads.Learnt,
-  is-alternating-reads.Asked,
-  is-alternating-reads.Learnt,
-  sums-reads.Asked,
-  sums-reads.Learnt,
-  low-ones-reads.Asked,
-  low-ones-reads.Learnt,
-  zero-reads.Asked,
-  zero-reads.Learnt,
-  less-reads.Asked,
-  less-reads.Learnt,
-  next-reads.Asked,
-  next-reads.Learnt,
-  lowest-reads.Asked,
-  lowest-reads.Learnt,
-  sum-reads.Asked,
-  sum-reads.Learnt,
-  dot-reads.Asked,
-  dot-reads.Learnt,
-  try-draw-below t,
-  try-draw.Post,
-)
-
--- ---- the endings that an arm for the others leaves, by their tags
-
-pub not-found : (v : Ending) → (tagOf the-type v ≡ 1) ⊎ (tagOf the-type v ≡ 2) → (v ≡ Failed) ⊎ (v ≡ Spent)
-not-found Found h = absurd (⊎-elim (λ e. omega arith) (λ e. omega arith) h)
-not-found Failed h = inl refl
-not-found Spent h = inr refl
-
-pub not-failed : (v : Ending) → (tagOf the-type v ≡ 0) ⊎ (tagOf the-type v ≡ 2) → (v ≡ Found) ⊎ (v ≡ Spent)
-not-failed Found h = inl refl
-not-failed Failed h = absurd (⊎-elim (λ e. omega arith) (λ e. omega arith) h)
-not-failed Spent h = inr refl
-
--- ---- one draw
-
-pub draw-size : (t : ℕ) (c : try-draw-lts.Start (draw-claims t) (try-draw-at t) try-draw.Post) → length (basisOf (c .args .s)) ≡ c .args .s .count
-draw-size t c = basis-length (c .args .s) (omega (arith, long c, c .pre .1 .1))
-  where
-    long : (c : try-draw-lts.Start (draw-claims t) (try-draw-at t) try-draw.Post) → length (c .args .s .basis) ≡ width
-    long c = search (needs, unmapped)
-
-module _ (t : ℕ) (c : try-draw-lts.After-try-space (draw-claims t) (try-draw-at t) try-draw.Post) (E : List ℕ)
-    (fit : matmul (basisOf (c .before .before .before .args .s)) E ≡ formsOf (c .before .before .before .args .s)) where
-  -- the search of the rest is that of the complement
-  pub draw-rest : (c .before .dropped .result .count ≡ c .before .before .before .args .s .count - 1)
-      × (basisOf (c .before .dropped .result) ≡ complement (form E (val (c .before .before .before .args .p))) (basisOf (c .before .before .before .args .s)))
-      × (seenBack (c .try-space .result) ≡ budgeted (c .before .before .before .args .budget)
-      (searchOf (form E) (c .before .dropped .result .count) (basisOf (c .before .dropped .result)) (c .before .before .before .args .looks)))
-  draw-rest =
-      let start = c .before .before .before in
-      let drawn = start .pre .1 .4 in
-      let rest = c .before .dropped .ensures in
-      let f = core-drawn (basisOf (start .args .s)) (formsOf (start .args .s)) E fit (drawn .0) (val (start .args .p)) (val (start .args .f)) (drawn .1) (drawn .2) in
-      let both = complement-forms (start .args .s) (c .before .dropped .result) (dot (val (start .args .f))) E (rest .1) (rest .2) fit in (
-        rest .0,
-        both .0 ∙ ap (λ (h : ℕ → Bool). complement h (basisOf (start .args .s))) (sym (form-of-row E (val (start .args .p)) (val (start .args .f)) f)),
-        c .try-space .ensures .1 E (both .1),
-      )
-
-  abbrev pub rest-out : Outcome
-  rest-out = searchOf (form E) (c .before .dropped .result .count) (basisOf (c .before .dropped .result)) (c .before .before .before .args .looks)
-
-  pub draw-whole : budgeted (c .before .before .before .args .budget) (afterRest (val (c .before .before .before .args .p)) failed rest-out)
-      ≡ budgeted (c .before .before .before .args .budget) (afterRest (val (c .before .before .before .args .p)) failed
-      (searchOf (form E) (c .before .before .before .args .s .count - 1) (complement (form E (val (c .before .before .before .args .p))) (basisOf (c .before .before .before .args .s))) (c .before .before .before .args .looks)))
-  draw-whole =
-      let s = c .before .before .before .args in
-      ap₂ (λ (d : ℕ) (bs : List ℕ). budgeted (s .budget) (afterRest (val (s .p)) failed (searchOf (form E) d bs (s .looks)))) (draw-rest .0) (draw-rest .1)
-
-pub rest-size : (t : ℕ) (c : try-draw-lts.After-try-space (draw-claims t) (try-draw-at t) try-draw.Post) (E : List ℕ)
-    → matmul (basisOf (c .before .before .before .args .s)) E ≡ formsOf (c .before .before .before .args .s)
-    → length (basisOf (c .before .dropped .result)) ≡ c .before .dropped .result .count
-rest-size t c E fit =
-    let start = c .before .before .before in
-    basis-length (c .before .dropped .result) (omega (arith, draw-rest t c E fit .0, start .pre .1 .1, long c))
-  where
-    long : (c : try-draw-lts.After-try-space (draw-claims t) (try-draw-at t) try-draw.Post) → length (c .before .dropped .result .basis) ≡ width
-    long c = search (needs, unmapped)
-
-abbrev pub try-space-Inv-loop : try-space-lts.InvT-loop
-try-space-Inv-loop s looks budget d t last c₀ p₀ f₀ spent₀ c p f spent =
-    (val c ≤ val last) × (spent ≤ budget) × (val p ≡ times (val c) (basisOf s)) × (val f ≡ times (val c) (formsOf s))
-    × ((E : List ℕ) → matmul (basisOf s) E ≡ formsOf s
-    → budgeted budget (draws (form E) (searchOf (form E) (d - 1)) (basisOf s) (val last - val c) (val c + 1) spent) ≡ budgeted budget (searchOf (form E) d (basisOf s) looks))
-
-abbrev pub try-space-μ-loop : try-space-lts.MeasureT-loop
-try-space-μ-loop s looks budget d t last c₀ p₀ f₀ spent₀ c p f spent = val last - val c
-
--- ---- a space: what the loop has set up, and where a draw stands
-
-module _ (t : ℕ) (c : try-space-lts.After-zero (space-claims t) (try-space-at t) try-space.Post try-space-Inv-loop try-space-μ-loop) where
-  pub positive : 0 < c .before .before .before .before .before .before .args .s .count
-  positive = pos-of-ne-zero (c .before .before .before .before .before .if1 .left)
-
+-- the coefficients that come next
 module _ (t : ℕ) (c : try-space-lts.After-next (space-claims t) (try-space-at t) try-space.Post try-space-Inv-loop try-space-μ-loop) where
-  abbrev pub next-start : try-space-lts.Start (space-claims t) (try-space-at t) try-space.Post try-space-Inv-loop try-space-μ-loop
-  next-start = c .before .before .before .before .before .before .before .before .before .before
+  abbrev pub begun : try-space-lts.Start (space-claims t) (try-space-at t) try-space.Post try-space-Inv-loop try-space-μ-loop
+  begun = c .before .before .before .before .before .before .before .before .before .before .before .before .before .before .before .before
 
-  abbrev pub next-last : Row
-  next-last = c .before .before .before .before .before .low-ones .result
+  abbrev pub last : ℕ
+  last = val (c .before .before .before .before .before .low-ones .result)
 
-  pub ahead : val (c .before .before .before .loop .c) < val next-last
-  ahead =
-      let less = c .before .before .less in
-      ltb-true (val (c .before .before .before .loop .c)) (val next-last) (sym (less .ensures) ∙ c .before .if3 .taken)
+  abbrev before : ℕ
+  before = val (c .before .before .before .loop .c)
+
+  pub ahead : val (c .before .before .before .loop .c) < val (c .before .before .before .before .before .low-ones .result)
+  ahead = ltb-true before last (sym (c .before .before .less .ensures) ∙ c .before .if3 .taken)
 
   pub next-value : val (c .next .result) ≡ val (c .before .before .before .loop .c) + 1
-  next-value =
-      let ones = c .before .before .before .before .before .low-ones in
-      next-is (next-start .args .s .count) (val (ones .result)) (val (c .before .before .before .loop .c)) (val (c .next .result)) (next-start .pre .1 .0) (ones .ensures) ahead (c .next .ensures)
+  next-value = next-is (begun .args .d) last before (val (c .next .result)) (begun .pre .1 .0) (c .before .before .before .before .before .low-ones .ensures) ahead (c .next .ensures)
 
-  column : (k : ℕ) → k ≡ lowest (val (c .next .result)) → k < next-start .args .s .count
-  column =
-      let ones = c .before .before .before .before .before .low-ones in
-      next-column (next-start .args .s .count) (val (ones .result)) (val (c .before .before .before .loop .c)) (val (c .next .result)) (next-start .pre .1 .0) (ones .ensures) ahead (c .next .ensures)
+  column : (k : ℕ) → k ≡ lowest (val (c .next .result)) → k < begun .args .d
+  column = next-column (begun .args .d) last before (val (c .next .result)) (begun .pre .1 .0) (c .before .before .before .before .before .low-ones .ensures) ahead (c .next .ensures)
 
-  drawn : (M : List ℕ) (p y k : ℕ) → k ≡ lowest (val (c .next .result)) → p ≡ times (val (c .before .before .before .loop .c)) M → y ≡ times (2 ^ suc k - 1) M → p ⊕ y ≡ times (val (c .next .result)) M
-  drawn =
-      let ones = c .before .before .before .before .before .low-ones in
-      next-drawn (next-start .args .s .count) (val (ones .result)) (val (c .before .before .before .loop .c)) (val (c .next .result)) (next-start .pre .1 .0) (ones .ensures) ahead (c .next .ensures)
+  drawn : (M : List ℕ) (p y k : ℕ) → k ≡ lowest (val (c .next .result)) → p ≡ times before M → y ≡ times (2 ^ suc k - 1) M → p ⊕ y ≡ times (val (c .next .result)) M
+  drawn = next-drawn (begun .args .d) last before (val (c .next .result)) (begun .pre .1 .0) (c .before .before .before .before .before .low-ones .ensures) ahead (c .next .ensures)
 
-module _ (t : ℕ) (c : try-space-lts.After-lowest (space-claims t) (try-space-at t) try-space.Post try-space-Inv-loop try-space-μ-loop) where
-  pub small : c .lowest .result < width
-  small = omega (arith, column t (c .before .before) (c .lowest .result) (c .lowest .ensures), next-start t (c .before .before) .pre .1 .0)
+-- the members and the Gram rows, and these with their sums behind them, as the draws begin
+module _ (t : ℕ) (c : try-space-lts.After-low-ones (space-claims t) (try-space-at t) try-space.Post try-space-Inv-loop try-space-μ-loop) where
+  abbrev pub members : List ℕ
+  members = take (c .before .before .before .before .before .before .before .before .before .before .before .args .d) (rowsIn (c .before .before .before .before .before .before .before .before .before .before .before .args .basis .now))
 
-  -- a look is left
-  pub paid : c .before .before .before .before .before .loop .spent + 1 ≤ next-start t (c .before .before) .args .budget
-  paid = omega (arith, c .before .before .before .before .before .loop .inv .1, c .before .if4 .left)
+  abbrev pub summed : List ℕ
+  summed = rowsIn (c .before .before .before .sums .last .0)
 
--- the vector and its form row, once they are summed
-module _ (t : ℕ) (c : try-space-lts.After-sum2 (space-claims t) (try-space-at t) try-space.Post try-space-Inv-loop try-space-μ-loop) where
-  pub vector : val (c .before .before .sum .result) ≡ times (val (c .before .before .before .before .before .before .next .result)) (basisOf (next-start t (c .before .before .before .before .before .before) .args .s))
-  vector =
-      let low = c .before .before .before .before .lowest in
-      let next = c .before .before .before .before .before .before in
-      let at = next .before .before .before .loop in
-      let sums = next .before .before .before .before .before .before .sums in
-      c .before .before .sum .ensures
-      ∙ drawn t next (basisOf (next-start t next .args .s)) (val (at .p)) (val (getD (sums .result .basis) (low .result) blank)) (low .result) (low .ensures) (at .inv .2)
-      (vals-get (sums .result .basis) (low .result) ∙ sums .ensures (low .result) (column t next (low .result) (low .ensures)) .0)
+  pub fit-in : (E : List ℕ) → gramOf E members ≡ take (c .before .before .before .before .before .before .before .before .before .before .before .args .d) (rowsIn (c .before .before .before .before .before .before .before .before .before .before .before .args .gram .now)) → gramOf E members ≡ take (c .before .before .before .before .before .before .before .before .before .before .before .args .d) summed
+  fit-in E e = e ∙ sym (c .before .before .before .sums .ensures .0)
 
-  pub form-row : val (c .sum2 .result) ≡ times (val (c .before .before .before .before .before .before .next .result)) (formsOf (next-start t (c .before .before .before .before .before .before) .args .s))
-  form-row =
-      let low = c .before .before .before .before .lowest in
-      let next = c .before .before .before .before .before .before in
-      let at = next .before .before .before .loop in
-      let sums = next .before .before .before .before .before .before .sums in
-      c .sum2 .ensures
-      ∙ drawn t next (formsOf (next-start t next .args .s)) (val (at .f)) (val (getD (sums .result .forms) (low .result) blank)) (low .result) (low .ensures) (at .inv .3)
-      (vals-get (sums .result .forms) (low .result) ∙ sums .ensures (low .result) (column t next (low .result) (low .ensures)) .1)
+  pub fit-out : (E : List ℕ) → gramOf E members ≡ take (c .before .before .before .before .before .before .before .before .before .before .before .args .d) summed → gramOf E members ≡ take (c .before .before .before .before .before .before .before .before .before .before .before .args .d) (rowsIn (c .before .before .before .before .before .before .before .before .before .before .before .args .gram .now))
+  fit-out E e = e ∙ c .before .before .before .sums .ensures .0
 
--- the draw, by its coefficient and its form with itself
-module _ (t : ℕ) (c : try-space-lts.After-dot (space-claims t) (try-space-at t) try-space.Post try-space-Inv-loop try-space-μ-loop) where
-  abbrev pub dot-next : try-space-lts.After-next (space-claims t) (try-space-at t) try-space.Post try-space-Inv-loop try-space-μ-loop
-  dot-next = c .before .before .before .before .before .before .before
+  pub summed-long : length (c .before .before .before .sums .last .0) ≡ length (c .before .before .before .before .before .before .before .before .before .before .before .args .gram .now)
+  summed-long = search needs
 
-  pub vector-is : val (c .before .before .before .sum .result) ≡ times (val (dot-next .before .before .before .loop .c) + 1) (basisOf (next-start t dot-next .args .s))
-  vector-is = vector t (c .before) ∙ ap (λ (x : ℕ). times x (basisOf (next-start t dot-next .args .s))) (next-value t dot-next)
+-- the sum of the Gram rows of the next coefficients
+module _ (t : ℕ) (c : try-space-lts.After-sum (space-claims t) (try-space-at t) try-space.Post try-space-Inv-loop try-space-μ-loop) where
+  at-column : c .before .before .lowest .result < c .before .before .before .before .before .before .before .before .before .before .before .before .before .before .before .before .before .before .before .before .before .args .d
+  at-column = column t (c .before .before .before .before .before) (c .before .before .lowest .result) (c .before .before .lowest .ensures)
 
-  pub form-is : (E : List ℕ) → matmul (basisOf (next-start t dot-next .args .s)) E ≡ formsOf (next-start t dot-next .args .s)
-      → form E (val (c .before .before .before .sum .result)) (val (c .before .before .before .sum .result)) ≡ c .dot .result
-  form-is E fit =
-      let s = next-start t dot-next .args .s in
-      let p = val (c .before .before .before .sum .result) in
-      let f = val (c .before .sum2 .result) in
-      form-dot E p f p (core-drawn (basisOf s) (formsOf s) E fit (val (dot-next .next .result)) p f (vector t (c .before)) (form-row t (c .before))) ∙ sym (c .dot .ensures)
+  pub sum-is : val (c .sum .result) ≡ times (val (c .before .before .before .before .before .next .result)) (take (c .before .before .before .before .before .before .before .before .before .before .before .before .before .before .before .before .before .before .before .before .before .args .d) (summed t (c .before .before .before .before .before .before .before .before .before .before)))
+  sum-is =
+      let d = c .before .before .before .before .before .before .before .before .before .before .before .before .before .before .before .before .before .before .before .before .before .args .d in
+      let low = c .before .before .lowest in
+      let at = c .before .before .before .before .before .before .before .before .loop in
+      let G = summed t (c .before .before .before .before .before .before .before .before .before .before) in
+      c .sum .ensures
+      ∙ drawn t (c .before .before .before .before .before) (take d G) (val (at .g)) (val (c .before .row .result)) (low .result) (low .ensures) (at .inv .6)
+      (c .before .row .ensures ∙ front-get (d + d) (rowsIn (at .gram)) G (at .inv .5) (d + low .result) (omega (arith, at-column)) ∙ c .before .before .before .before .before .before .before .before .before .before .before .before .before .sums .ensures .1 (low .result) at-column
+      ∙ ap (times (2 ^ suc (low .result) - 1)) (sym (c .before .before .before .before .before .before .before .before .before .before .before .before .before .sums .ensures .0)))
 
-  -- what is left of the draws behind coefficient x
-  abbrev left : List ℕ → ℕ → ℕ → Verdict
-  left E x k =
-      let s = next-start t dot-next .args in
-      budgeted (s .budget) (draws (form E) (searchOf (form E) (s .s .count - 1)) (basisOf (s .s)) (val (next-last t dot-next) - x) (x + 1) k)
+-- the draw tested
+module _ (t : ℕ) (c : try-space-lts.After-dot (space-claims t) (try-space-at t) try-space.Post try-space-Inv-loop try-space-μ-loop) (E : List ℕ) (fit : gramOf E (members t (c .before .before .before .before .before .before .before .before .before .before .before)) ≡ take (c .before .before .before .before .before .before .before .before .before .before .before .before .before .before .before .before .before .before .before .before .before .before .args .d) (summed t (c .before .before .before .before .before .before .before .before .before .before .before))) where
+  pub tested : (let p = times (val (c .before .before .before .before .before .before .next .result)) (members t (c .before .before .before .before .before .before .before .before .before .before .before)) in form E p p ≡ c .dot .result)
+  tested = gram-self E (members t (c .before .before .before .before .before .before .before .before .before .before .before)) (take (c .before .before .before .before .before .before .before .before .before .before .before .before .before .before .before .before .before .before .before .before .before .before .args .d) (summed t (c .before .before .before .before .before .before .before .before .before .before .before))) fit (val (c .before .before .before .before .before .before .next .result)) ∙ ap (dot (val (c .before .before .before .before .before .before .next .result))) (sym (sum-is t (c .before))) ∙ sym (c .dot .ensures)
 
-  pub onward : (E : List ℕ) (k : ℕ) (A : Verdict) → left E (val (dot-next .before .before .before .loop .c) + 1) k ≡ A → left E (val (dot-next .next .result)) k ≡ A
-  onward E k A e = ap (λ (x : ℕ). left E x k) (next-value t dot-next) ∙ e
+-- ---- before the draws
+
+pub try-space-returns : (t : ℕ) → try-space-lts.Need-returns (space-claims t) (try-space-at t) try-space.Post try-space-Inv-loop try-space-μ-loop
+unfolding verdictOf
+try-space-returns t c =
+    let s = c .before .before .before .args in
+    let pre = c .before .before .before .pre .1 in (
+      pre .3,
+      λ E e. ap (λ l. ended (found l (s .looks))) (found-none (s .d) (rowsIn (s .basis .now)) (c .if1 .taken))
+          ∙ space-empty (form E) (s .budget) (s .looks) (take (s .d) (rowsIn (s .basis .now))) (s .d) (c .if1 .taken) (pre .3),
+    )
+
+pub try-space-is-alternating-requires : (t : ℕ) → try-space-lts.Need-is-alternating-requires (space-claims t) (try-space-at t) try-space.Post try-space-Inv-loop try-space-μ-loop
+try-space-is-alternating-requires t c κs =
+    let s = c .before .before .before .before in
+    (s .pre .1 .0, omega (arith, levels-least (s .args .d), s .pre .1 .2))
+
+pub try-space-returns-2 : (t : ℕ) → try-space-lts.Need-returns-2 (space-claims t) (try-space-at t) try-space.Post try-space-Inv-loop try-space-μ-loop
+unfolding verdictOf
+try-space-returns-2 t c =
+    let s = c .before .before .before .before .before .before .args in
+    let pre = c .before .before .before .before .before .before .pre .1 in
+    let B = take (s .d) (rowsIn (s .basis .now)) in (
+      pre .3,
+      λ E e. space-alternating (form E) (s .budget) (s .looks) B (s .d) (pos-of-ne-zero (c .before .before .before .if1 .left)) (sym (c .before .is-alternating .ensures E B e) ∙ c .if2 .taken) (pre .3),
+    )
+
+pub try-space-sums-requires : (t : ℕ) → try-space-lts.Need-sums-requires (space-claims t) (try-space-at t) try-space.Post try-space-Inv-loop try-space-μ-loop
+try-space-sums-requires t c κs =
+    let s = c .before .before .before .before .before .before .before in
+    (s .pre .1 .0, omega (arith, levels-least (s .args .d), s .pre .1 .2))
+
+pub try-space-loop-holds : (t : ℕ) → try-space-lts.Need-loop-holds (space-claims t) (try-space-at t) try-space.Post try-space-Inv-loop try-space-μ-loop
+try-space-loop-holds t c =
+    let s = c .before .before .before .before .before .before .before .before .before .before .before .before .args in
+    let lo = c .before in
+    let z = c .zero .ensures in
+    let B = members t lo in
+    let G = take (s .d) (summed t lo) in (
+      omega (arith, z),
+      c .before .before .before .before .before .before .before .before .before .before .before .before .pre .1 .3,
+      refl,
+      refl,
+      refl,
+      refl,
+      z ∙ sym (ap (λ x. times x G) z ∙ times-zero G),
+      λ E e.
+          space-begun (form E) (s .budget) (s .looks) B (s .d) (val (lo .low-ones .result)) (val (c .zero .result)) (ones-last (s .d) (val (lo .low-ones .result)) (c .before .before .before .before .before .before .before .before .before .before .before .before .pre .1 .0) (lo .low-ones .ensures)) z
+          (pos-of-ne-zero (c .before .before .before .before .before .before .before .before .before .if1 .left)) (sym (c .before .before .before .before .before .before .before .is-alternating .ensures E B (fit-out t lo E e)) ∙ c .before .before .before .before .before .before .if2 .left),
+    )
+
+pub try-space-returns-5 : (t : ℕ) → try-space-lts.Need-returns-5 (space-claims t) (try-space-at t) try-space.Post try-space-Inv-loop try-space-μ-loop
+unfolding verdictOf
+try-space-returns-5 t c =
+    let at = c .before .before .loop in
+    let lo = c .before .before .before .before in
+    let s = c .before .before .before .before .before .before .before .before .before .before .before .before .before .before .before .args in (
+      at .inv .1,
+      λ E e.
+          at-end (form E) (s .budget) (at .spent) (members t lo) (s .d - 1) (val (lo .low-ones .result)) (val (at .c)) _ (at .inv .7 E (fit-in t lo E e))
+          (ltb-false (val (at .c)) (val (lo .low-ones .result)) (sym (c .before .less .ensures) ∙ c .if3 .left)) (at .inv .1),
+    )
+
+pub try-space-returns-3 : (t : ℕ) → try-space-lts.Need-returns-3 (space-claims t) (try-space-at t) try-space.Post try-space-Inv-loop try-space-μ-loop
+unfolding verdictOf
+try-space-returns-3 t c =
+    let at = c .before .before .before .before .loop in
+    let lo = c .before .before .before .before .before .before in
+    let s = c .before .before .before .before .before .before .before .before .before .before .before .before .before .before .before .before .before .args in (
+      at .inv .1,
+      λ E e. at-stop (form E) (s .budget) (at .spent) (members t lo) (s .d - 1) (val (lo .low-ones .result)) (val (at .c)) _ (at .inv .7 E (fit-in t lo E e)) (ahead t (c .before)) (c .if4 .taken),
+    )
+
+pub try-space-add-row : (t : ℕ) → try-space-lts.Need-add-row (space-claims t) (try-space-at t) try-space.Post try-space-Inv-loop try-space-μ-loop
+try-space-add-row t c = omega (arith, column t (c .before .before .before) (c .lowest .result) (c .lowest .ensures), c .before .before .before .before .before .before .before .before .before .before .before .before .before .before .before .before .before .before .before .pre .1 .0)
