@@ -14,6 +14,6 @@ pub extern "C" fn search_core(core: &[u64], budget: u64) -> u64
     ensures { λ r. ⌜ (let E = coreIn (now (core .entry)) in r ≡ looksAt (budgeted budget (search (form E) (length E) (units (length E)) 0))) ⌝ }
 {
     let mut list = [0u64; WIDTH];
-    let r = triangular::congruence_triangularize(core, budget, &mut list);
+    let r = search::congruence_triangularize(core, budget, &mut list);
     r.looks
 }

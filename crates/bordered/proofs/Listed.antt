@@ -9,8 +9,8 @@ use native.Mathlib.Omega.{arith}
 use lib.ListN.{length}
 use lib.Seq.{take-all}
 use Rattle.binar.specs.Rows.{width}
-use Rattle.blocks.specs.declared.Block.{Block}
 use Rattle.blocks.specs.Blocks.{rowsOf}
+use Rattle.blocks.specs.Words.{rowsIn}
 use Rattle.blocks.specs.Matrices.{times, matmul}
 use Rattle.blocks.proofs.Products.{matmul-is}
 use Rattle.symplectic.specs.Actions.{maxQubits}
@@ -18,8 +18,8 @@ use Rattle.symplectic.specs.Picks.{when}
 use Rattle.reduction.specs.Residue.{basis, core, residue, form}
 use Rattle.reduction.proofs.Core.{core-length, basis-rank, residue-length}
 use Rattle.reduction.proofs.Transform.{rank-length}
-use Rattle.triangular.specs.Readings.{coreOf}
-use Rattle.triangular.proofs.Cores.{core-rows}
+use Rattle.triangular.specs.Readings.{coreIn}
+use Rattle.triangular.proofs.Cores.{core-in}
 use Rattle.family.specs.declared.Family.{Family}
 use Rattle.family.specs.declared.Construction.the-variants.{Made, Stuck}
 use Rattle.family.specs.Readings.{listOf, familyOf}
@@ -42,37 +42,35 @@ module _ (b : Bordered) where
 
 -- ---- the list that the two checks pass of a family
 
-module _ (n : ℕ) (F : List ℕ) (v b : Block) (f : Family) (family : Option (List (ℕ × Bool))) (is : familyOf f ≡ family) where
-  pub unlisted : f .construction ≡ Stuck → none ≡ checkedList n F (rowsOf v) (rowsOf b) family
+module _ (n : ℕ) (F B E : List ℕ) (f : Family) (family : Option (List (ℕ × Bool))) (is : familyOf f ≡ family) where
+  pub unlisted : f .construction ≡ Stuck → none ≡ checkedList n F B E family
   unfolding checkedList
-  unlisted e = ap (checkedList n F (rowsOf v) (rowsOf b)) (sym (family-of-stuck f e) ∙ is)
+  unlisted e = ap (checkedList n F B E) (sym (family-of-stuck f e) ∙ is)
 
   -- the list vs, with what the two checks say
-  pub listed-by : f .construction ≡ Made → (r : ℕ) → r ≡ length (rowsOf v) → (vs : List ℕ) → vs ≡ matmul (rowsOf (f .vectors)) (rowsOf v)
-      → (s t : Bool) → s ≡ validate r (form (rowsOf b)) (listOf f) → t ≡ verifiesBordered n F r vs
-      → when (s && t) vs ≡ checkedList n F (rowsOf v) (rowsOf b) family
+  pub listed-by : f .construction ≡ Made → (r : ℕ) → r ≡ length B → (vs : List ℕ) → vs ≡ matmul (rowsOf (f .vectors)) B
+      → (s t : Bool) → s ≡ validate r (form E) (listOf f) → t ≡ verifiesBordered n F r vs
+      → when (s && t) vs ≡ checkedList n F B E family
   unfolding checkedList
   listed-by e r rank vs product s t valid verified =
-      let B = rowsOf v in
-      let E = form (rowsOf b) in
       let all : vs ≡ map (λ p. times p B) (map (λ a. a .0) (listOf f)) =
       product ∙ matmul-is (rowsOf (f .vectors)) B ∙ ap (map (λ p. times p B)) (sym (list-vectors f)) in
-      ap₂ (λ x y. when (x && y) vs) (valid ∙ ap (λ m. validate m E (listOf f)) rank) (verified ∙ ap (λ m. verifiesBordered n F m vs) rank)
-      ∙ ap (λ w. when (validate (length B) E (listOf f) && verifiesBordered n F (length B) w) w) all
-      ∙ ap (checkedList n F B (rowsOf b)) (sym (family-of-made f e) ∙ is)
+      ap₂ (λ x y. when (x && y) vs) (valid ∙ ap (λ m. validate m (form E) (listOf f)) rank) (verified ∙ ap (λ m. verifiesBordered n F m vs) rank)
+      ∙ ap (λ w. when (validate (length B) (form E) (listOf f) && verifiesBordered n F (length B) w) w) all
+      ∙ ap (checkedList n F B E) (sym (family-of-made f e) ∙ is)
 
 -- ---- the list of an action
 
 module _ (n : ℕ) (F : List ℕ) (size : length F ≡ n + n) (small : n ≤ maxQubits) where
   -- no row of the core is left out
-  pub core-fits : (b : Block) → rowsOf b ≡ core n F → coreOf b ≡ core n F
-  core-fits b e =
-      core-rows b
-      ∙ take-all width (rowsOf b) (omega (arith, ap length e, core-length n F, basis-rank n F, rank-length (n + n) (residue n F), residue-length n F size)) ∙ e
+  pub core-fits : (ws : List ℕ) → rowsIn ws ≡ core n F → coreIn ws ≡ core n F
+  core-fits ws e =
+      core-in ws
+      ∙ take-all width (rowsIn ws) (omega (arith, ap length e, core-length n F, basis-rank n F, rank-length (n + n) (residue n F), residue-length n F size)) ∙ e
 
-  -- blocks that hold the basis and the core
-  pub bordered-of : (v b : Block) → rowsOf v ≡ basis n F → rowsOf b ≡ core n F → checkedList n F (rowsOf v) (rowsOf b) (coreFamily (coreOf b)) ≡ borderedList n F
+  -- words that hold the basis and the core
+  pub bordered-of : (v w : List ℕ) → rowsIn v ≡ basis n F → rowsIn w ≡ core n F → checkedList n F (rowsIn v) (rowsIn w) (coreFamily (coreIn w)) ≡ borderedList n F
   unfolding borderedList
-  bordered-of v b from of =
-      ap₂ (λ (l m : List ℕ). checkedList n F l m (coreFamily (coreOf b))) from of
-      ∙ ap (λ (m : List ℕ). checkedList n F (basis n F) (core n F) (coreFamily m)) (core-fits b of)
+  bordered-of v w from of =
+      ap₂ (λ (l m : List ℕ). checkedList n F l m (coreFamily (coreIn w))) from of
+      ∙ ap (λ (m : List ℕ). checkedList n F (basis n F) (core n F) (coreFamily m)) (core-fits w of)

@@ -11,21 +11,23 @@ use lib.ListN.{length, getD, drop, drop-of-length-le}
 use Rattle.binar.specs.Bits.{odd, _⊻_, _⊕_, dot}
 use Rattle.binar.proofs.Digits.{odd-zero, odd-suc}
 use Rattle.binar.proofs.Sums.{sum-zero, sum-assoc, sum-comm}
-use Rattle.blocks.specs.Matrices.{matmul}
+use Rattle.blocks.specs.Blocks.{rowsOf}
+use Rattle.blocks.specs.Matrices.{times}
 use Rattle.symplectic.proofs.FirstPicks.{drop-open}
 use Rattle.reduction.specs.Residue.{form}
-use Rattle.triangular.proofs.Cores.{core-row, form-dot}
-use Rattle.family.specs.Readings.{marked}
-use Rattle.family.proofs.Marked.{marked-nil, marked-peeled, marked-related, marked-at}
+use Rattle.triangular.proofs.Cores.{form-dot}
+use Rattle.family.specs.declared.Family.{Family}
+use Rattle.family.specs.Readings.{marked, listOf}
+use Rattle.family.proofs.Marked.{marked-nil, marked-peeled, marked-related, marked-at, list-marked}
 use Rattle.bordered.specs.Checks.{oddRelation, relationSum, borderedForm}
 
 -- ---- the entry of two vectors, the first of them times the core, and their bits
 
-module _ (E vs R : List ℕ) (is : R ≡ matmul vs E) (k i j : ℕ) (h : i < length vs) (g : j < length vs) where
-  pub gram-is : (r both : Bool) (a b : ℕ) → r ≡ dot a b ⊻ both → a ≡ getD R i 0 → b ≡ getD vs j 0 → both ≡ leb k i && leb k j
+module _ (E vs : List ℕ) (k i j : ℕ) (h : i < length vs) (g : j < length vs) where
+  pub gram-is : (r both : Bool) (a b : ℕ) → r ≡ dot a b ⊻ both → a ≡ times (getD vs i 0) E → b ≡ getD vs j 0 → both ≡ leb k i && leb k j
       → r ≡ borderedForm (form E) (getD (marked k vs) i (0, false)) (getD (marked k vs) j (0, false))
   gram-is r both a b e x y z =
-      e ∙ ap₂ _⊻_ (sym (form-dot E (getD vs i 0) a b (x ∙ core-row vs R E (sym is) i)) ∙ ap (form E (getD vs i 0)) y) z
+      e ∙ ap₂ _⊻_ (sym (form-dot E (getD vs i 0) a b x) ∙ ap (form E (getD vs i 0)) y) z
       ∙ sym (ap₂ (borderedForm (form E)) (marked-at k vs i h) (marked-at k vs j g))
 
 -- ---- how many are in the relation
@@ -33,12 +35,17 @@ module _ (E vs R : List ℕ) (is : R ≡ matmul vs E) (k i j : ℕ) (h : i < len
 odd-none : (n : ℕ) → n ≡ 0 → false ≡ odd n
 odd-none n e = sym (ap odd e ∙ odd-zero)
 
-pub marked-odd : (k : ℕ) (vs : List ℕ) → oddRelation (marked k vs) ≡ odd (length vs - k)
+marked-odd : (k : ℕ) (vs : List ℕ) → oddRelation (marked k vs) ≡ odd (length vs - k)
 marked-odd k [] = ap oddRelation (marked-nil k) ∙ odd-none (0 - k) (omega arith)
 marked-odd zero (v ∷ vs) =
     let e : suc (length vs - 0) ≡ suc (length vs) - 0 = omega arith in
     ap oddRelation (marked-related v vs) ∙ ap not (marked-odd zero vs) ∙ sym (odd-suc (length vs - 0)) ∙ ap odd e
 marked-odd (suc k) (v ∷ vs) = ap oddRelation (marked-peeled k v vs) ∙ marked-odd k vs ∙ ap odd (sym (suc-sub-suc (length vs) k))
+
+-- those of a family of k vectors
+pub family-odd : (f : Family) (k : ℕ) → k ≡ length (rowsOf (f .vectors)) → odd (k - f .peeled) ≡ oddRelation (listOf f)
+family-odd f k e =
+    ap (λ (m : ℕ). odd (m - f .peeled)) e ∙ sym (ap oddRelation (list-marked f) ∙ marked-odd (f .peeled) (rowsOf (f .vectors)))
 
 -- ---- their sum, one by one
 

@@ -5,17 +5,20 @@ use family::Family;
 use symplectic::Action;
 ghost use mathlib.Core.Path.{_≡_};
 ghost use mathlib.Core.Bool.{_&&_, not};
-ghost use Prim.Native.Nat.{ℕ, suc};
+ghost use Prim.Native.Nat.{ℕ, suc, _+_, _-_};
 ghost use lib.Dec.{eqb, leb};
-ghost use Rattle.binar.specs.Bits.{_⊻_, dot};
+ghost use lib.ListN.{length};
+ghost use Rattle.binar.specs.Bits.{odd, _⊻_, dot};
 ghost use Rattle.binar.specs.Rows.{val};
 ghost use Rattle.blocks.specs.Blocks.{rowsOf};
-ghost use Rattle.symplectic.specs.Turns.{allOf, product as productOf};
-ghost use Rattle.symplectic.specs.Actions.{capped, qubits, matrix};
+ghost use Rattle.blocks.specs.Words.{rowsIn};
+ghost use Rattle.symplectic.specs.Turns.{allOf, product};
+ghost use Rattle.symplectic.specs.Actions.{qubits, matrix};
 ghost use Rattle.symplectic.specs.Replies.{fitAll};
+ghost use Rattle.symplectic.specs.Matches.{sameRows};
 ghost use Rattle.reduction.specs.Residue.{form};
 ghost use Rattle.family.specs.Readings.{listOf};
-ghost use Rattle.bordered.specs.Checks.{oddRelation, relationSum, unitLower, validate as validateOf, verifiesBordered};
+ghost use Rattle.bordered.specs.Checks.{relationSum, unitLower, validate as validateOf, verifiesBordered};
 
 fn none_zero(b: Block) -> bool
     ensures { λ r. ⌜ r ≡ allOf (λ (v : ℕ). not (eqb v 0)) (rowsOf b) ⌝ }
@@ -49,13 +52,12 @@ fn one_more(k: usize, r: usize) -> bool
     if r < k { k - r == 1 } else { false }
 }
 
-// Whether an odd number of vectors is in the relation.
-fn odd_relation(f: Family) -> bool
-    ensures { λ r. ⌜ r ≡ oddRelation (listOf f) ⌝ }
+// Whether an odd number of k vectors is in the relation.
+fn odd_relation(k: usize, peeled: usize) -> bool
+    ensures { λ r. ⌜ r ≡ odd (k - peeled) ⌝ }
 {
-    let k = blocks::length_of(f.vectors);
-    if f.peeled < k {
-        (k - f.peeled) % 2 == 1
+    if peeled < k {
+        (k - peeled) % 2 == 1
     } else {
         false
     }
@@ -76,15 +78,14 @@ fn gram(row: Row, v: Row, both: bool) -> bool
 }
 
 // Whether each row has a one on the diagonal, and none behind it.
-fn unit_lower(core: Block, f: Family) -> bool
-    ensures { λ r. ⌜ r ≡ unitLower (form (rowsOf core)) (listOf f) ⌝ }
+fn unit_lower(core: &[u64], f: Family) -> bool
+    ensures { λ r. ⌜ r ≡ unitLower (form (rowsIn (now (core .entry)))) (listOf f) ⌝ }
 {
     let vectors = f.vectors;
     let peeled = f.peeled;
-    let rows = blocks::product(vectors, core);
     let k = blocks::length_of(vectors);
     for i in 0..k {
-        let row = rows.rows[i];
+        let row = blocks::times(vectors.rows[i], core);
         if !gram(row, vectors.rows[i], both_related(peeled, i, i)) {
             return false;
         }
@@ -111,17 +112,18 @@ fn relation_sum(f: Family) -> Row
 }
 
 // Whether a family on a core of rank r is valid.
-pub(crate) fn validate(r: usize, core: Block, f: Family) -> bool
-    ensures { λ x. ⌜ x ≡ validateOf r (form (rowsOf core)) (listOf f) ⌝ }
+pub(crate) fn validate(r: usize, core: &[u64], f: Family) -> bool
+    ensures { λ x. ⌜ x ≡ validateOf r (form (rowsIn (now (core .entry)))) (listOf f) ⌝ }
 {
     let vectors = f.vectors;
     if !fit_all(r, vectors) {
         return false;
     }
-    if !one_more(blocks::length_of(vectors), r) {
+    let k = blocks::length_of(vectors);
+    if !one_more(k, r) {
         return false;
     }
-    if !odd_relation(f) {
+    if !odd_relation(k, f.peeled) {
         return false;
     }
     if !unit_lower(core, f) {
@@ -133,16 +135,41 @@ pub(crate) fn validate(r: usize, core: Block, f: Family) -> bool
     reduction::rank(r, vectors) == r
 }
 
-// The product of the rows of a block.
-fn product(n: u64, b: Block) -> Action
-    ensures { λ r. ⌜ (qubits r ≡ capped n) × (matrix r ≡ productOf (capped n) (rowsOf b)) ⌝ }
+// Whether the rows of lent words are the action's.
+fn same_rows(w: &[u64], a: Action) -> bool
+    requires { ⌜ length (rowsIn (now w)) ≡ qubits a + qubits a ⌝ }
+    ensures { λ r. ⌜ r ≡ sameRows (rowsIn (now (w .entry))) (matrix a) ⌝ }
 {
-    let count = blocks::length_of(b);
-    let mut a = symplectic::identity(n);
-    for t in 0..count {
-        a = symplectic::followed(a, b.rows[t]);
+    let count = blocks::rows_in(w);
+    for i in 0..count {
+        if !binar::equal(blocks::row(w, i), a.rows[i]) {
+            return false;
+        }
     }
-    a
+    true
+}
+
+// Whether the product of the rows of a block, made in lent words, is the action.
+fn is_product_in(a: Action, b: Block, w: &mut [u64]) -> bool
+    requires { ⌜ length (rowsIn (now w)) ≡ qubits a + qubits a ⌝ }
+    ensures { λ r. ⌜ r ≡ sameRows (product (qubits a) (rowsOf b)) (matrix a) ⌝ }
+{
+    symplectic::put_identity(a.n, w);
+    let count = blocks::length_of(b);
+    for t in 0..count {
+        symplectic::follow(a.n, w, b.rows[t]);
+    }
+    same_rows(&w[..], a)
+}
+
+// Whether the product of the rows of a block is the action.
+fn is_product(a: Action, b: Block) -> bool
+    ensures { λ r. ⌜ r ≡ sameRows (product (qubits a) (rowsOf b)) (matrix a) ⌝ }
+{
+    let n = symplectic::qubits_of(a);
+    let mut w = [0u64; symplectic::MOST_ROWS];
+    let to = blocks::start(&w, n + n);
+    is_product_in(a, b, &mut w[..to])
 }
 
 // Whether the vectors of a bordered list are r + 1, none zero, none out of width, with the action for their product.
@@ -159,5 +186,5 @@ pub(crate) fn verifies_bordered_decomposition(a: Action, r: usize, vectors: Bloc
     if !fit_all(n + n, vectors) {
         return false;
     }
-    symplectic::same_rows(product(a.n, vectors), a)
+    is_product(a, vectors)
 }

@@ -8,8 +8,10 @@ use symplectic::Action;
 ghost use mathlib.Core.Path.{_≡_};
 ghost use mathlib.Core.Option.{none};
 ghost use Rattle.blocks.specs.Blocks.{rowsOf};
+ghost use Rattle.blocks.specs.Matrices.{matmul};
+ghost use Rattle.blocks.specs.Words.{rowsIn};
 ghost use Rattle.symplectic.specs.Actions.{qubits, matrix};
-ghost use Rattle.triangular.specs.Readings.{coreOf};
+ghost use Rattle.triangular.specs.Readings.{coreIn};
 ghost use Rattle.bordered.specs.Checks.{checkedList, coreFamily};
 ghost use Rattle.bordered.specs.Readings.{listedOf};
 
@@ -34,10 +36,23 @@ fn rejected() -> Bordered
     }
 }
 
+// Each vector of a block times the rows of lent words.
+fn times_basis(vectors: Block, basis: &[u64]) -> Block
+    ensures { λ r. ⌜ rowsOf r ≡ matmul (rowsOf vectors) (rowsIn (now (basis .entry))) ⌝ }
+{
+    let k = blocks::length_of(vectors);
+    let mut list = blocks::empty();
+    for i in 0..k {
+        list.rows[i] = blocks::times(vectors.rows[i], basis);
+    }
+    list.count = k;
+    list
+}
+
 // Each vector of a valid family of the core times the basis, where these are verified for the action: its bordered list, if they are the
 // core of the action and the basis of its residue.
-pub fn bordered_list(a: Action, basis: Block, core: Block) -> Bordered
-    ensures { λ r. ⌜ listedOf r ≡ checkedList (qubits a) (matrix a) (rowsOf basis) (rowsOf core) (coreFamily (coreOf core)) ⌝ }
+pub fn bordered_list(a: Action, basis: &[u64], core: &[u64]) -> Bordered
+    ensures { λ r. ⌜ listedOf r ≡ checkedList (qubits a) (matrix a) (rowsIn (now (basis .entry))) (rowsIn (now (core .entry))) (coreFamily (coreIn (now (core .entry)))) ⌝ }
 {
     let f = family::bordered_family(core);
     let construction = f.construction;
@@ -47,11 +62,11 @@ pub fn bordered_list(a: Action, basis: Block, core: Block) -> Bordered
         }
         Construction::Made => {}
     }
-    let r = blocks::length_of(basis);
+    let r = blocks::rows_in(basis);
     if !checks::validate(r, core, f) {
         return rejected();
     }
-    let list = blocks::product(f.vectors, basis);
+    let list = times_basis(f.vectors, basis);
     if !checks::verifies_bordered_decomposition(a, r, list) {
         return rejected();
     }

@@ -123,11 +123,11 @@ module _ (n : ℕ) (l : List ℕ) where
       upto-refused k e = sym next-questions ∙ then-refused (askedAt n l j) (sequenceQuestions n (drop (j + 3) l)) k e
 
       -- the next gate is passed, and its turns are made
-      pub upto-next : (G : List ℕ) (q : ℕ) → q ≡ n → askedAt n l j ≡ 0 → G ≡ followedBy q F (turnsAt q l j) → Upto n l (j + 3) G
+      pub upto-next : (G : List ℕ) → askedAt n l j ≡ 0 → G ≡ followedBy n F (turnsAt n l j) → Upto n l (j + 3) G
       unfolding sequenceTurns
-      upto-next G q same e made =
+      upto-next G e made =
           let rest = sequenceTurns n (drop (j + 3) l) in (
             sym (then-passed (askedAt n l j) (sequenceQuestions n (drop (j + 3) l)) e) ∙ next-questions,
-            ap (λ (x : List ℕ). followedBy n x rest) (made ∙ ap (λ (k : ℕ). followedBy k F (turnsAt k l j)) same)
+            ap (λ (x : List ℕ). followedBy n x rest) made
                 ∙ sym (followedBy-append n F (turnsAt n l j) rest) ∙ ap (followedBy n F) (sym (ap (sequenceTurns n) (three l j h))) ∙ upto .1,
           )

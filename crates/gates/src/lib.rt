@@ -1,17 +1,18 @@
 // Gate sequences: the action of a sequence of gates, laid into lent rows.
 // Not in the source.
 use binar::Row;
-use symplectic::Action;
 use symplectic::Figures;
 use symplectic::MAX_QUBITS;
 ghost use mathlib.Core.Path.{_≡_};
 ghost use mathlib.Core.Bool.{true};
 ghost use mathlib.Core.List.{[], _∷_, map};
 ghost use Prim.Native.Nat.{_+_, _<_, _≤_};
+ghost use lib.ListN.{length};
 ghost use Rattle.binar.specs.Bits.{select, bit};
 ghost use Rattle.binar.specs.Rows.{val, unit};
+ghost use Rattle.blocks.specs.Words.{rowsIn};
 ghost use Rattle.symplectic.specs.Turns.{followedBy};
-ghost use Rattle.symplectic.specs.Actions.{maxQubits, qubits as qubitsOf, matrix};
+ghost use Rattle.symplectic.specs.Actions.{maxQubits};
 ghost use Rattle.symplectic.specs.Replies.{Rebuilds};
 ghost use Rattle.gates.specs.Sheet.{gate, turnVector};
 ghost use Rattle.gates.specs.Sequences.{readsTwo, gateQuestions, sequenceTurns, gatesReply};
@@ -137,20 +138,17 @@ fn turn_vector(n: usize, a: u8, b: u8, code: u64) -> Row
     binar::sum(y, unit_where(code, 3, n + q))
 }
 
-// The action followed by the turns of gate g.
-fn after_gate(act: Action, g: u8, a: u8, b: u8) -> Action
-    requires { ⌜ (a < qubitsOf act) × (readsTwo g ≡ true → b < qubitsOf act) ⌝ }
-    ensures { λ r. ⌜ (qubitsOf r ≡ qubitsOf act) × (matrix r ≡ followedBy (qubitsOf act) (matrix act) (map (turnVector (qubitsOf act) a b) (gate g .turns))) ⌝ }
+// Each row of words lent for work followed by the turns of gate g, on n qubits.
+fn follow_gate(n: u64, w: &mut [u64], g: u8, a: u8, b: u8)
+    requires { ⌜ (n ≤ maxQubits) × (a < n) × (readsTwo g ≡ true → b < n) ⌝ }
+    ensures { λ _. ⌜ rowsIn (now (w .exit)) ≡ followedBy n (rowsIn (now (w .entry))) (map (turnVector n a b) (gate g .turns)) ⌝ }
 {
-    let mut after = act;
-    let n = symplectic::qubits_of(act);
     let l = sheet_line(g);
     let count = l.count;
     for j in 0..count {
-        let v = turn_vector(n, a, b, l.codes[j]);
-        after = symplectic::followed(after, v);
+        let v = turn_vector(n as usize, a, b, l.codes[j]);
+        symplectic::follow(n, w, v);
     }
-    after
 }
 
 // The number and the count that an answer stands for.
@@ -191,6 +189,40 @@ pub fn figures_of(r: GateAction) -> Figures
     }
 }
 
+// The action of the whole gates among the bytes, made in words lent for work and laid into lent rows.
+fn played(n: u64, bytes: &[u8], w: &mut [u64], out: &mut [u64]) -> GateAction
+    requires { ⌜ (n ≤ maxQubits) × (length (rowsIn (now w)) ≡ n + n) × (length (now out) ≡ n + n) ⌝ }
+    ensures answered { λ r. ⌜ figuresOf r ≡ gatesReply n (now (bytes .entry)) (now (out .entry)) .figures ⌝ }
+    ensures left { λ r. ⌜ now (out .exit) ≡ gatesReply n (now (bytes .entry)) (now (out .entry)) .words ⌝ }
+    ensures replays { λ r. ⌜ Rebuilds n (sequenceTurns n (now (bytes .entry))) (now (out .exit)) (figuresOf r) ⌝ }
+{
+    symplectic::put_identity(n, w);
+    let gates = bytes.len() / 3;
+    for i in 0..gates {
+        let at = i * 3;
+        let g = bytes[at];
+        let a = bytes[at + 1];
+        let b = bytes[at + 2];
+        match question(n, g, a, b) {
+            GateQuestion::Passed => {
+                follow_gate(n, w, g, a, b);
+            }
+            GateQuestion::UnknownGate => {
+                return GateAction::UnknownGate;
+            }
+            GateQuestion::QubitTooHigh => {
+                return GateAction::QubitTooHigh;
+            }
+            GateQuestion::EqualQubits => {
+                return GateAction::EqualQubits;
+            }
+        }
+    }
+    symplectic::store(symplectic::from_rows(n, &w[..]), out);
+    let count = n + n;
+    GateAction::Rows { count: count }
+}
+
 // The action of the whole gates among the bytes, three bytes each, in exactly 2n lent rows.
 pub fn gate_action(n: u64, bytes: &[u8], out: &mut [u64]) -> GateAction
     ensures answered { λ r. ⌜ figuresOf r ≡ gatesReply n (now (bytes .entry)) (now (out .entry)) .figures ⌝ }
@@ -205,28 +237,7 @@ pub fn gate_action(n: u64, bytes: &[u8], out: &mut [u64]) -> GateAction
     if out.len() != m {
         return GateAction::WrongRowCount;
     }
-    let mut act = symplectic::identity(n);
-    let gates = bytes.len() / 3;
-    for i in 0..gates {
-        let at = i * 3;
-        let g = bytes[at];
-        let a = bytes[at + 1];
-        let b = bytes[at + 2];
-        match question(n, g, a, b) {
-            GateQuestion::Passed => {
-                act = after_gate(act, g, a, b);
-            }
-            GateQuestion::UnknownGate => {
-                return GateAction::UnknownGate;
-            }
-            GateQuestion::QubitTooHigh => {
-                return GateAction::QubitTooHigh;
-            }
-            GateQuestion::EqualQubits => {
-                return GateAction::EqualQubits;
-            }
-        }
-    }
-    symplectic::store(act, out);
-    GateAction::Rows { count: count }
+    let mut w = [0u64; symplectic::MOST_ROWS];
+    let to = blocks::start(&w, m);
+    played(n, bytes, &mut w[..to], out)
 }

@@ -4,7 +4,9 @@ use symplectic::Action;
 use symplectic::Figures;
 use symplectic::MAX_QUBITS;
 ghost use mathlib.Core.Path.{_≡_};
-ghost use Rattle.blocks.specs.Words.{rowsOfWords};
+ghost use Prim.Native.Nat.{_+_};
+ghost use lib.ListN.{length};
+ghost use Rattle.blocks.specs.Words.{rowsOfWords, rowsIn};
 ghost use Rattle.symplectic.specs.Actions.{capped, qubits, matrix};
 ghost use Rattle.symplectic.specs.Turns.{product};
 ghost use Rattle.symplectic.specs.Replies.{Rebuilds};
@@ -47,16 +49,27 @@ pub fn figures_of(r: Rebuilt) -> Figures
     }
 }
 
+// The product of the vectors that lent words hold, made in words lent for work.
+fn product_in(n: u64, list: &[u64], w: &mut [u64]) -> Action
+    requires { ⌜ length (rowsIn (now w)) ≡ capped n + capped n ⌝ }
+    ensures { λ r. ⌜ (qubits r ≡ capped n) × (matrix r ≡ product (capped n) (rowsOfWords n (now (list .entry)))) ⌝ }
+{
+    symplectic::put_identity(n, w);
+    for i in 0..list.len() {
+        let v = binar::of_word(list[i]);
+        symplectic::follow(n, w, v);
+    }
+    symplectic::from_rows(n, &w[..])
+}
+
 // The product of the vectors that lent words hold, however many they are.
 pub fn product_of(n: u64, list: &[u64]) -> Action
     ensures { λ r. ⌜ (qubits r ≡ capped n) × (matrix r ≡ product (capped n) (rowsOfWords n (now (list .entry)))) ⌝ }
 {
-    let mut a = symplectic::identity(n);
-    for i in 0..list.len() {
-        let v = binar::of_word(list[i]);
-        a = symplectic::followed(a, v);
-    }
-    a
+    let mut w = [0u64; symplectic::MOST_ROWS];
+    let k = symplectic::capped(n);
+    let to = blocks::start(&w, k + k);
+    product_in(n, list, &mut w[..to])
 }
 
 // The product of the turns of a list, in exactly 2n lent rows.

@@ -1,12 +1,12 @@
 -- The rows of an action: how many there are, and an array whose rows are written one by one from the start.
 -- Assumes nothing.
 use mathlib.Core.Path.{_≡_, refl, sym, ap, ap₂, _∙_}
-use mathlib.Core.List.{List, [], _∷_, _++_}
+use mathlib.Core.List.{List, [], _∷_, _++_, append-nil}
 use Prim.Native.Nat.{ℕ, zero, suc, _+_, _≤_, _<_, min}
 use native.Mathlib.Nat.{le-of-suc-le-suc, not-suc-le-zero}
 use native.Mathlib.Omega.{arith}
-use lib.ListN.{length, getD, set, take, drop, replicate}
-use lib.Seq.{take-at, take-take, take-append-le, getD-take, getD-at, drop-cons, length-take-le}
+use lib.ListN.{length, getD, set, take, drop, replicate, drop-of-length-le}
+use lib.Seq.{take-all, take-at, take-take, take-append-le, getD-take, getD-at, drop-cons, length-take-le}
 use Rattle.binar.specs.declared.Row.{Row}
 use Rattle.binar.specs.Rows.{val}
 use Rattle.binar.specs.inner.Blank.{blank}
@@ -53,15 +53,22 @@ rows-more m l rows i w hm hl inv e =
     vals-set rows i w ∙ ap₂ (λ (x : List ℕ) (v : ℕ). set x i v) inv e ∙ laid-more m l i hm hl
 
 -- the next row is not written yet
-pub rows-next : (m l : List ℕ) (rows : List Row) (i : ℕ) → i < length m → i < length l → vals rows ≡ take i m ++ drop i l → val (getD rows i blank) ≡ getD l i 0
-rows-next m l rows i hm hl inv =
-    vals-get rows i ∙ ap (λ (x : List ℕ). getD x i 0) (inv ∙ ap (λ (x : List ℕ). take i m ++ x) (drop-cons l i 0 hl))
+pub next-left : (m l x : List ℕ) (i : ℕ) → i < length m → i < length l → x ≡ take i m ++ drop i l → getD x i 0 ≡ getD l i 0
+next-left m l x i hm hl inv =
+    ap (λ (y : List ℕ). getD y i 0) (inv ∙ ap (λ (y : List ℕ). take i m ++ y) (drop-cons l i 0 hl))
     ∙ getD-at (take i m) (getD l i 0) (drop (suc i) l) 0 i (length-take-le i m (omega arith))
+
+pub rows-next : (m l : List ℕ) (rows : List Row) (i : ℕ) → i < length m → i < length l → vals rows ≡ take i m ++ drop i l → val (getD rows i blank) ≡ getD l i 0
+rows-next m l rows i hm hl inv = vals-get rows i ∙ next-left m l (vals rows) i hm hl inv
 
 -- the rows that are written
 pub rows-front : (m l : List ℕ) (i k : ℕ) → k ≤ i → i ≤ length m → take k (take i m ++ drop i l) ≡ take k m
 rows-front m l i k h g =
     take-append-le k (take i m) (drop i l) (omega (arith, length-take-le i m g)) ∙ take-take k i m h
+
+-- all of them
+pub all-written : (m l : List ℕ) (i : ℕ) → length m ≤ i → length l ≤ i → take i m ++ drop i l ≡ m
+all-written m l i h g = ap₂ (λ (x y : List ℕ). x ++ y) (take-all i m h) (drop-of-length-le l g) ∙ append-nil m
 
 -- ---- the rows of a turn and of lent words
 

@@ -6,6 +6,7 @@ pub mod Lists
 pub mod Products
 pub mod Layers
 pub mod Arrays
+pub mod Work
 pub mod Tests
 pub mod Matches
 pub mod Questions

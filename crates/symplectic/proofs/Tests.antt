@@ -1,18 +1,24 @@
 -- A test and those behind it; tests of all members, one by one: true so far, one member more, and a member that fails. Then the test of an action's rows.
 -- Assumes nothing.
-use mathlib.Core.Path.{_≡_, refl, sym, ap, ap₂, _∙_}
-use mathlib.Core.Bool.{Bool, true, false, _&&_, Bool·beq, and-eq-true-iff, and-false}
+use mathlib.Core.Path.{_≡_, refl, sym, ap, ap₂, _∙_, subst}
+use mathlib.Core.Bool.{Bool, true, false, _&&_, Bool·beq, and-eq-true-iff, and-false, true≢false}
+use mathlib.Core.Logic.{⊎-elim}
 use mathlib.Core.List.{List, [], _∷_, zip, zipWith}
 use Prim.Native.Nat.{ℕ, zero, suc, _+_, _^_, _≤_, _<_, min}
-use native.Mathlib.Nat.{le-of-suc-le-suc, not-suc-le-zero}
+use native.Mathlib.Nat.{le-of-suc-le-suc, not-suc-le-zero, eq-or-lt-of-le}
 use native.Mathlib.Numerals.{add-one}
 use native.Mathlib.Omega.{arith}
-use lib.ListN.{length, getD, take}
-use lib.Seq.{take-all}
+use lib.Dec.{ltb}
+use lib.ListN.{length, getD, take, length-take}
+use lib.Seq.{take-all, getD-take}
+use borrow.Author.Tests.{ltb-true, ltb-false}
 use Rattle.blocks.specs.Matrices.{units}
+use Rattle.blocks.proofs.All.{All·at}
 use Rattle.blocks.proofs.Units.{units-length, units-at}
 use Rattle.symplectic.specs.Turns.{pairing, allOf, pairAlike, symplectic}
-use Rattle.symplectic.specs.inner.Vectors.{pairsAsBasis}
+use Rattle.symplectic.specs.inner.Vectors.{pairsBelow}
+use Rattle.symplectic.proofs.Lists.{all-true}
+use Rattle.symplectic.proofs.Pairings.{pairing-comm, pairing-self}
 
 -- ---- one test and those behind it
 
@@ -51,6 +57,21 @@ module _ {A : Type 0} (f : A → Bool) (d : A) where
   all-fails (x ∷ l) zero h e = ap (λ (b : Bool). b && allOf f l) (sym e)
   all-fails (x ∷ l) (suc i) h e = sym (and-false (f x)) ∙ ap (λ (b : Bool). f x && b) (all-fails l i (le-of-suc-le-suc h) e)
 
+-- one of the first members fails
+some-fails : {A : Type 0} (f : A → Bool) (l : List A) (k : ℕ) → allOf f (take k l) ≡ false → allOf f l ≡ false
+some-fails f l zero e = absurd (true≢false e)
+some-fails f [] (suc k) e = e
+some-fails f (x ∷ l) (suc k) e = go (f x) e (some-fails f l k)
+  where
+    go : (b : Bool) → b && allOf f (take k l) ≡ false → (allOf f (take k l) ≡ false → allOf f l ≡ false) → b && allOf f l ≡ false
+    go true h later = later h
+    go false h later = refl
+
+-- every member passes
+all-each : {A : Type 0} (f : A → Bool) (d : A) (l : List A) → ((i : ℕ) → i < length l → f (getD l i d) ≡ true) → allOf f l ≡ true
+all-each f d [] each = refl
+all-each f d (x ∷ l) each = ap₂ _&&_ (each 0 (omega arith)) (all-each f d l (λ i h. each (suc i) (omega arith)))
+
 -- every member has passed
 pub all-end : {A : Type 0} (f : A → Bool) (l : List A) (i : ℕ) → length l ≤ i → allOf f (take i l) ≡ true → true ≡ allOf f l
 all-end f l i h inv = sym (ap (allOf f) (sym (take-all i l h)) ∙ inv)
@@ -71,58 +92,83 @@ zip-get (x ∷ xs) [] i h = absurd (omega arith)
 zip-get (x ∷ xs) (y ∷ ys) zero h = refl
 zip-get (x ∷ xs) (y ∷ ys) (suc i) h = zip-get xs ys i (omega arith)
 
--- row i and the rows below j
-unfoldable pub pairsBelow : ℕ → List ℕ → ℕ → ℕ → Bool
-pairsBelow n F i j = allOf (pairAlike n (getD F i 0, 2 ^ i)) (take j (zip F (units (n + n))))
+-- rows i and j pair as their basis vectors do
+abbrev pub alike : ℕ → List ℕ → ℕ → ℕ → Bool
+alike n F i j = Bool·beq (pairing n (getD F i 0) (getD F j 0)) (pairing n (2 ^ i) (2 ^ j))
 
--- the rows below i and every row
-unfoldable pub symplecticBelow : ℕ → List ℕ → ℕ → Bool
-symplecticBelow n F i = let rows = zip F (units (n + n)) in allOf (λ a. allOf (pairAlike n a) rows) (take i rows)
+-- each of the first i rows with those before it
+abbrev pub Paired : ℕ → List ℕ → ℕ → Type 0
+Paired n F i = (a b : ℕ) → b < a → a < i → alike n F a b ≡ true
 
 module _ (n : ℕ) (F : List ℕ) (size : length F ≡ n + n) where
-  beside-length : length (zip F (units (n + n))) ≡ n + n
+  abbrev rows : List (ℕ × ℕ)
+  rows = zip F (units (n + n))
+
+  abbrev with : ℕ → ℕ × ℕ → Bool
+  with i = pairAlike n (getD F i 0, 2 ^ i)
+
+  beside-length : length rows ≡ n + n
   beside-length = zip-length F (units (n + n)) ∙ omega (arith, units-length (n + n))
 
-  beside-at : (i : ℕ) → i < n + n → getD (zip F (units (n + n))) i (0, 0) ≡ (getD F i 0, 2 ^ i)
+  beside-at : (i : ℕ) → i < n + n → getD rows i (0, 0) ≡ (getD F i 0, 2 ^ i)
   beside-at i h = zip-get F (units (n + n)) i (size ∙ sym (units-length (n + n))) ∙ ap (λ (u : ℕ). (getD F i 0, u)) (units-at i (n + n) h)
 
-  -- the next row pairs with row i as the basis does, or it does not
-  pub basis-next : (i j : ℕ) → j < n + n → pairsBelow n F i j ≡ true → Bool·beq (pairing n (getD F i 0) (getD F j 0)) (pairing n (2 ^ i) (2 ^ j)) ≡ true → pairsBelow n F i (j + 1) ≡ true
-  unfolding pairsBelow pairAlike
-  basis-next i j h inv e =
-      all-next test (0, 0) (zip F (units (n + n))) j (omega (arith, beside-length)) inv (ap test (beside-at j h) ∙ e)
+  -- the test of row i with row j
+  with-is : (i j : ℕ) → j < n + n → with i (getD rows j (0, 0)) ≡ alike n F i j
+  unfolding pairAlike
+  with-is i j h = ap (with i) (beside-at j h)
+
+  first-is : (i j k : ℕ) → j < k → j < n + n → with i (getD (take k rows) j (0, 0)) ≡ alike n F i j
+  first-is i j k l h = ap (with i) (getD-take k rows j (0, 0) l) ∙ with-is i j h
+
+  first-length : (j k : ℕ) → j < k → j < n + n → j < length (take k rows)
+  first-length j k l h = omega (arith, length-take k rows, beside-length)
+
+  -- ---- row i with the rows before it, one by one
+
+  pub basis-next : (i j : ℕ) → j < n + n → pairsBelow n F i j ≡ true → alike n F i j ≡ true → pairsBelow n F i (j + 1) ≡ true
+  unfolding pairsBelow
+  basis-next i j h inv e = all-next (with i) (0, 0) rows j (omega (arith, beside-length)) inv (with-is i j h ∙ e)
+
+  pub basis-fails : (i j k : ℕ) → j < k → j < n + n → alike n F i j ≡ false → false ≡ pairsBelow n F i k
+  unfolding pairsBelow
+  basis-fails i j k l h e = all-fails (with i) (0, 0) (take k rows) j (first-length j k l h) (first-is i j k l h ∙ e)
+
+  -- ---- the rows, one by one
+
+  pub paired-next : (i : ℕ) → i < n + n → Paired n F i → pairsBelow n F i i ≡ true → Paired n F (i + 1)
+  unfolding pairsBelow
+  paired-next i h inv e a b l m =
+      let upto : a ≤ i = omega arith in
+      ⊎-elim (λ (same : a ≡ i). subst (λ (k : ℕ). alike n F k b ≡ true) (sym same) (here (omega arith))) (λ (less : a < i). inv a b l less)
+      (eq-or-lt-of-le upto)
     where
-      test : ℕ × ℕ → Bool
-      test = pairAlike n (getD F i 0, 2 ^ i)
+      here : b < i → alike n F i b ≡ true
+      here k =
+          sym (first-is i b i k (omega arith))
+          ∙ All·at (λ x. with i x ≡ true) (take i rows) (all-true (with i) (take i rows) e) b (0, 0) (first-length b i k (omega arith))
 
-  pub basis-fails : (i j : ℕ) → j < n + n → Bool·beq (pairing n (getD F i 0) (getD F j 0)) (pairing n (2 ^ i) (2 ^ j)) ≡ false → false ≡ pairsAsBasis n F i
-  unfolding pairsAsBasis pairAlike
-  basis-fails i j h e =
-      all-fails test (0, 0) (zip F (units (n + n))) j (omega (arith, beside-length)) (ap test (beside-at j h) ∙ e)
-    where
-      test : ℕ × ℕ → Bool
-      test = pairAlike n (getD F i 0, 2 ^ i)
-
-  pub basis-end : (i j : ℕ) → n + n ≤ j → pairsBelow n F i j ≡ true → true ≡ pairsAsBasis n F i
-  unfolding pairsBelow pairsAsBasis
-  basis-end i j h inv = all-end (pairAlike n (getD F i 0, 2 ^ i)) (zip F (units (n + n))) j (omega (arith, beside-length)) inv
-
-  pub symplectic-next : (i : ℕ) → i < n + n → symplecticBelow n F i ≡ true → pairsAsBasis n F i ≡ true → symplecticBelow n F (i + 1) ≡ true
-  unfolding symplecticBelow pairsAsBasis
-  symplectic-next i h inv e =
-      all-next test (0, 0) (zip F (units (n + n))) i (omega (arith, beside-length)) inv (ap test (beside-at i h) ∙ e)
-    where
-      test : ℕ × ℕ → Bool
-      test a = allOf (pairAlike n a) (zip F (units (n + n)))
-
-  pub symplectic-fails : (i : ℕ) → i < n + n → pairsAsBasis n F i ≡ false → false ≡ symplectic n F
-  unfolding symplectic pairsAsBasis
+  pub symplectic-fails : (i : ℕ) → i < n + n → pairsBelow n F i i ≡ false → false ≡ symplectic n F
+  unfolding symplectic pairsBelow
   symplectic-fails i h e =
-      all-fails test (0, 0) (zip F (units (n + n))) i (omega (arith, beside-length)) (ap test (beside-at i h) ∙ e)
-    where
-      test : ℕ × ℕ → Bool
-      test a = allOf (pairAlike n a) (zip F (units (n + n)))
+      all-fails (λ a. allOf (pairAlike n a) rows) (0, 0) rows i (omega (arith, beside-length))
+      (ap (λ a. allOf (pairAlike n a) rows) (beside-at i h) ∙ some-fails (with i) rows i e)
 
-  pub symplectic-end : (i : ℕ) → n + n ≤ i → symplecticBelow n F i ≡ true → true ≡ symplectic n F
-  unfolding symplecticBelow symplectic
-  symplectic-end i h inv = all-end (λ a. allOf (pairAlike n a) (zip F (units (n + n)))) (zip F (units (n + n))) i (omega (arith, beside-length)) inv
+  -- the pairing is the same either way round, and 0 with itself: so rows with those before them are all that is to be tested
+  pub symplectic-end : (i : ℕ) → n + n ≤ i → Paired n F i → true ≡ symplectic n F
+  unfolding symplectic
+  symplectic-end i h inv =
+      sym (all-each (λ a. allOf (pairAlike n a) rows) (0, 0) rows (λ a k.
+      ap (λ x. allOf (pairAlike n x) rows) (beside-at a (inside a k))
+      ∙ all-each (with a) (0, 0) rows (λ b l. with-is a b (inside b l) ∙ every a b (inside a k) (inside b l) (ltb b a) refl)))
+    where
+      inside : (a : ℕ) → a < length rows → a < n + n
+      inside a k = omega (arith, beside-length)
+
+      every : (a b : ℕ) → a < n + n → b < n + n → (less : Bool) → ltb b a ≡ less → alike n F a b ≡ true
+      every a b k l true e = inv a b (ltb-true b a e) (omega arith)
+      every a b k l false e =
+          ⊎-elim
+          (λ (same : a ≡ b). subst (λ (x : ℕ). alike n F a x ≡ true) same (ap₂ Bool·beq (pairing-self n (getD F a 0)) (pairing-self n (2 ^ a))))
+          (λ (less : a < b). ap₂ Bool·beq (pairing-comm n (getD F a 0) (getD F b 0)) (pairing-comm n (2 ^ a) (2 ^ b)) ∙ inv b a less (omega arith))
+          (eq-or-lt-of-le (ltb-false b a e))

@@ -3,12 +3,13 @@
 use binar::Row;
 ghost use mathlib.Core.Path.{_≡_};
 ghost use Prim.Native.Nat.{_+_, _<_, _≤_};
+ghost use lib.ListN.{length};
 ghost use Rattle.binar.specs.Bits.{_⊕_, select, dot};
 ghost use Rattle.binar.specs.Rows.{val};
 ghost use Rattle.blocks.specs.Matrices.{units};
-ghost use Rattle.blocks.specs.Words.{rowsOfWords, laid};
+ghost use Rattle.blocks.specs.Words.{rowsOfWords, laid, rowsIn, over};
 ghost use Rattle.symplectic.specs.Turns.{followed as followedOf, symplectic};
-ghost use Rattle.symplectic.specs.inner.Vectors.{swapHalves, pairsAsBasis};
+ghost use Rattle.symplectic.specs.inner.Vectors.{swapHalves, pairsBelow};
 ghost use Rattle.symplectic.specs.Actions.{maxQubits, capped as cappedOf, qubits, matrix, padded};
 ghost use Rattle.symplectic.specs.Replies.{fitAll, actionQuestions, nothingListed};
 ghost use Rattle.symplectic.specs.Matches.{sameRows};
@@ -53,7 +54,7 @@ pub enum Listing {
 }
 
 // n, and the most qubits where n is above that.
-fn capped(n: u64) -> usize
+pub fn capped(n: u64) -> usize
     ensures { λ r. ⌜ r ≡ cappedOf n ⌝ }
 {
     if n < MAX_QUBITS {
@@ -107,6 +108,18 @@ pub fn followed(a: Action, v: Row) -> Action
     b
 }
 
+// Each row of words lent for work followed by the turn of v, on n qubits.
+pub fn follow(n: u64, w: &mut [u64], v: Row)
+    ensures { λ _. ⌜ rowsIn (now (w .exit)) ≡ followedOf (cappedOf n) (rowsIn (now (w .entry))) (val v) ⌝ }
+{
+    let s = swap_halves(capped(n), v);
+    let count = blocks::rows_in(&w[..]);
+    for i in 0..count {
+        let u = blocks::row(&w[..], i);
+        blocks::put(w, i, turned(u, v, s));
+    }
+}
+
 pub fn identity(n: u64) -> Action
     ensures { λ r. ⌜ (qubits r ≡ cappedOf n) × (matrix r ≡ units (cappedOf n + cappedOf n)) ⌝ }
 {
@@ -118,6 +131,34 @@ pub fn identity(n: u64) -> Action
     for i in 0..MOST_ROWS {
         let u = binar::unit(i);
         a.rows[i] = u;
+    }
+    a
+}
+
+// The identity on n qubits put into words lent for work, as far as they reach.
+pub fn put_identity(n: u64, w: &mut [u64])
+    ensures { λ _. ⌜ rowsIn (now (w .exit)) ≡ over (units (cappedOf n + cappedOf n)) (rowsIn (now (w .entry))) ⌝ }
+{
+    let k = capped(n);
+    let count = blocks::lesser(k + k, blocks::rows_in(&w[..]));
+    for i in 0..count {
+        blocks::put(w, i, binar::unit(i));
+    }
+}
+
+// The action that words lent for work hold.
+pub fn from_rows(n: u64, w: &[u64]) -> Action
+    ensures { λ r. ⌜ (qubits r ≡ cappedOf n) × (matrix r ≡ padded (cappedOf n + cappedOf n) (rowsIn (now (w .entry)))) ⌝ }
+{
+    let z = binar::zero();
+    let mut a = Action {
+        n: n,
+        rows: [z; MOST_ROWS],
+    };
+    let count = blocks::lesser(blocks::rows_in(w), MOST_ROWS);
+    for i in 0..count {
+        let v = blocks::row(w, i);
+        a.rows[i] = v;
     }
     a
 }
@@ -151,18 +192,15 @@ pub fn store(a: Action, out: &mut [u64])
     }
 }
 
-// Whether row i pairs with every row as its basis vector does with theirs.
-fn pairs_as_basis(a: Action, i: usize) -> bool
-    requires { ⌜ i < qubits a + qubits a ⌝ }
-    ensures { λ r. ⌜ r ≡ pairsAsBasis (qubits a) (matrix a) i ⌝ }
+// Whether row i of those that lent words hold pairs with each row before it as its basis vector does with theirs.
+fn pairs_as_basis(n: usize, words: &[u64], i: usize) -> bool
+    requires { ⌜ (n ≤ maxQubits) × (length (now words) ≡ n + n) × (i < n + n) ⌝ }
+    ensures { λ r. ⌜ r ≡ pairsBelow n (rowsOfWords n (now (words .entry))) i i ⌝ }
 {
-    let n = qubits_of(a);
-    let count = n + n;
-    let u = a.rows[i];
-    let s = swap_halves(n, u);
+    let s = swap_halves(n, binar::of_word(words[i]));
     let e = swap_halves(n, binar::unit(i));
-    for j in 0..count {
-        let v = a.rows[j];
+    for j in 0..i {
+        let v = binar::of_word(words[j]);
         if binar::dot(v, s) != binar::bit(e, j) {
             return false;
         }
@@ -170,13 +208,14 @@ fn pairs_as_basis(a: Action, i: usize) -> bool
     true
 }
 
-fn is_symplectic(a: Action) -> bool
-    ensures { λ r. ⌜ r ≡ symplectic (qubits a) (matrix a) ⌝ }
+// Whether the rows that lent words hold pair as the basis does. Pairs are tested one way round: the pairing is symmetric, and 0 of a vector with itself.
+fn is_symplectic(n: usize, words: &[u64]) -> bool
+    requires { ⌜ (n ≤ maxQubits) × (length (now words) ≡ n + n) ⌝ }
+    ensures { λ r. ⌜ r ≡ symplectic n (rowsOfWords n (now (words .entry))) ⌝ }
 {
-    let n = qubits_of(a);
-    let count = n + n;
+    let count = words.len();
     for i in 0..count {
-        if !pairs_as_basis(a, i) {
+        if !pairs_as_basis(n, words, i) {
             return false;
         }
     }
@@ -228,7 +267,7 @@ pub fn action_questions(n: u64, words: &[u64]) -> Question
     if !words_fit(n, words) {
         return Question::RowTooWide;
     }
-    if !is_symplectic(from_words(n, words)) {
+    if !is_symplectic(n as usize, words) {
         return Question::NotSymplectic;
     }
     Question::Passed

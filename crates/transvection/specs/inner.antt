@@ -1,2 +1,1 @@
 pub mod Searches
-pub mod Kept

@@ -1,22 +1,20 @@
 // The greedy list: turns that undo an action, each found in the matrix I + F, laid in reverse into lent words.
 // In the source: transvection.rs, `clifford_to_transvections`, `symplectic_residue_matrix`, `next_transvection`.
 use binar::Row;
-use symplectic::Action;
 use symplectic::Listing;
 ghost use mathlib.Core.Path.{_≡_};
 ghost use mathlib.Core.List.{reverse};
 ghost use Prim.Native.Nat.{_+_, _*_, _^_, _≤_, _<_};
-ghost use lib.ListN.{length};
+ghost use lib.ListN.{length, take};
 ghost use Rattle.binar.specs.Bits.{_⊕_};
 ghost use Rattle.binar.specs.Rows.{width, val};
-ghost use Rattle.blocks.specs.Words.{laid};
+ghost use Rattle.blocks.specs.Words.{rowsOfWords, laid, rowsIn, over};
 ghost use Rattle.symplectic.specs.Turns.{pairing, identityPlus};
-ghost use Rattle.symplectic.specs.Actions.{maxQubits, qubits, matrix};
+ghost use Rattle.symplectic.specs.Actions.{maxQubits};
 ghost use Rattle.symplectic.specs.Replies.{Replays};
 ghost use Rattle.symplectic.specs.Answers.{figuresOf};
-ghost use Rattle.transvection.specs.Greedy.{firstNonzero, nextTransvection, recorded, greedyReply};
+ghost use Rattle.transvection.specs.Greedy.{firstNonzero, nextTransvection, recorded, greedyList, greedyReply};
 ghost use Rattle.transvection.specs.inner.Searches.{chosen, oneFrom, withFrom, pairFrom};
-ghost use Rattle.transvection.specs.inner.Kept.{recordRoom, turns};
 
 // How many turns a record has room for: 4n + 2 at the most qubits.
 const RECORD_ROOM: usize = 130;
@@ -25,12 +23,6 @@ const RECORD_ROOM: usize = 130;
 enum Found {
     Vector { row: Row },
     Nothing,
-}
-
-// The turns so far, in the order in which they were taken.
-struct Record {
-    rows: [Row; RECORD_ROOM],
-    count: usize,
 }
 
 // Row i of I + F, from row i of F.
@@ -54,13 +46,13 @@ fn meets(n: usize, row: Row, j: usize) -> bool
 }
 
 // The lowest row that pairs to 1 with its own basis vector.
-fn one_row(a: Action) -> Found
-    ensures { λ r. ⌜ chosen r ≡ oneFrom (qubits a) (matrix a) 0 ⌝ }
+fn one_row(n: usize, w: &[u64]) -> Found
+    requires { ⌜ (n ≤ maxQubits) × (length (rowsIn (now w)) ≡ n + n) ⌝ }
+    ensures { λ r. ⌜ chosen r ≡ oneFrom n (rowsIn (now (w .entry))) 0 ⌝ }
 {
-    let n = symplectic::qubits_of(a);
     let count = n + n;
     for i in 0..count {
-        let u = row_at(a.rows[i], i);
+        let u = row_at(blocks::row(w, i), i);
         if meets(n, u, i) {
             return Found::Vector { row: u };
         }
@@ -69,31 +61,30 @@ fn one_row(a: Action) -> Found
 }
 
 // The sum of row i and the first row j behind it where row i's pairing with basis vector j differs from row j's with basis vector i.
-fn pair_with(a: Action, i: usize) -> Found
-    requires { ⌜ i < qubits a + qubits a ⌝ }
-    ensures { λ r. ⌜ chosen r ≡ withFrom (qubits a) (matrix a) i (i + 1) ⌝ }
+fn pair_with(n: usize, w: &[u64], i: usize) -> Found
+    requires { ⌜ (n ≤ maxQubits) × (length (rowsIn (now w)) ≡ n + n) × (i < n + n) ⌝ }
+    ensures { λ r. ⌜ chosen r ≡ withFrom n (rowsIn (now (w .entry))) i (i + 1) ⌝ }
 {
-    let n = symplectic::qubits_of(a);
     let count = n + n;
-    let u = row_at(a.rows[i], i);
+    let u = row_at(blocks::row(w, i), i);
     for j in i + 1..count {
-        let v = row_at(a.rows[j], j);
-        let w = binar::sum(u, v);
+        let v = row_at(blocks::row(w, j), j);
         if meets(n, u, j) != meets(n, v, i) {
-            return Found::Vector { row: w };
+            let s = binar::sum(u, v);
+            return Found::Vector { row: s };
         }
     }
     Found::Nothing
 }
 
 // The sum of the first such pair.
-fn pair_of_rows(a: Action) -> Found
-    ensures { λ r. ⌜ chosen r ≡ pairFrom (qubits a) (matrix a) 0 ⌝ }
+fn pair_of_rows(n: usize, w: &[u64]) -> Found
+    requires { ⌜ (n ≤ maxQubits) × (length (rowsIn (now w)) ≡ n + n) ⌝ }
+    ensures { λ r. ⌜ chosen r ≡ pairFrom n (rowsIn (now (w .entry))) 0 ⌝ }
 {
-    let n = symplectic::qubits_of(a);
     let count = n + n;
     for i in 0..count {
-        let pair = pair_with(a, i);
+        let pair = pair_with(n, w, i);
         match pair {
             Found::Vector { row: _ } => {
                 return pair;
@@ -105,13 +96,13 @@ fn pair_of_rows(a: Action) -> Found
 }
 
 // The lowest nonzero row.
-fn nonzero_row(a: Action) -> Found
-    ensures { λ r. ⌜ chosen r ≡ firstNonzero (identityPlus (qubits a) (matrix a)) ⌝ }
+fn nonzero_row(n: usize, w: &[u64]) -> Found
+    requires { ⌜ (n ≤ maxQubits) × (length (rowsIn (now w)) ≡ n + n) ⌝ }
+    ensures { λ r. ⌜ chosen r ≡ firstNonzero (identityPlus n (rowsIn (now (w .entry)))) ⌝ }
 {
-    let n = symplectic::qubits_of(a);
     let count = n + n;
     for i in 0..count {
-        let u = row_at(a.rows[i], i);
+        let u = row_at(blocks::row(w, i), i);
         if !binar::is_zero(u) {
             return Found::Vector { row: u };
         }
@@ -120,63 +111,86 @@ fn nonzero_row(a: Action) -> Found
 }
 
 // The vector that the greedy rule takes next.
-fn next_transvection(a: Action) -> Found
-    ensures { λ r. ⌜ chosen r ≡ nextTransvection (qubits a) (matrix a) ⌝ }
+fn next_transvection(n: usize, w: &[u64]) -> Found
+    requires { ⌜ (n ≤ maxQubits) × (length (rowsIn (now w)) ≡ n + n) ⌝ }
+    ensures { λ r. ⌜ chosen r ≡ nextTransvection n (rowsIn (now (w .entry))) ⌝ }
 {
-    let one = one_row(a);
+    let one = one_row(n, w);
     match one {
         Found::Vector { row: _ } => {
             return one;
         }
         Found::Nothing => {}
     }
-    let pair = pair_of_rows(a);
+    let pair = pair_of_rows(n, w);
     match pair {
         Found::Vector { row: _ } => {
             return pair;
         }
         Found::Nothing => {}
     }
-    nonzero_row(a)
+    nonzero_row(n, w)
 }
 
-// The turns that undo an action.
-fn record_turns(a: Action) -> Record
-    ensures { λ r. ⌜ (turns r ≡ recorded (qubits a) (4 * qubits a + 2) (matrix a)) × (r .count ≤ 4 * qubits a + 2) ⌝ }
+// The turns that undo the action whose rows stand in lent words, put into others; how many they are. The rows follow the turns.
+fn record_turns(n: u64, w: &mut [u64], kept: &mut [u64]) -> usize
+    requires { ⌜ (n ≤ maxQubits) × (length (rowsIn (now w)) ≡ n + n) × (4 * n + 2 ≤ length (rowsIn (now kept))) ⌝ }
+    ensures { λ r. ⌜ (r ≤ 4 * n + 2) × (take r (rowsIn (now (kept .exit))) ≡ recorded n (4 * n + 2) (rowsIn (now (w .entry)))) ⌝ }
 {
-    let z = binar::zero();
-    let mut b = a;
-    let mut kept = Record {
-        rows: [z; RECORD_ROOM],
-        count: 0,
-    };
-    let limit = symplectic::qubits_of(a) * 4 + 2;
+    let m = n as usize;
+    let limit = m * 4 + 2;
     for i in 0..limit {
-        let next = next_transvection(b);
+        let next = next_transvection(m, &w[..]);
         match next {
             Found::Vector { row } => {
-                b = symplectic::followed(b, row);
-                kept.rows[i] = row;
-                kept.count = i + 1;
+                symplectic::follow(n, w, row);
+                blocks::put(kept, i, row);
             }
             Found::Nothing => {
-                return kept;
+                return i;
             }
         }
     }
-    kept
+    limit
 }
 
-// The record, of turns of n qubits, laid into lent words, its last turn first.
-fn store_reversed(n: u64, kept: Record, out: &mut [u64])
-    requires { ⌜ (kept .count ≤ recordRoom) × (kept .count ≤ length (now out)) ⌝ }
-    ensures { λ _. ⌜ now (out .exit) ≡ laid n (reverse (turns kept)) (now (out .entry)) ⌝ }
+// The first turns of a record, of n qubits, laid into lent words, the last one first.
+fn store_reversed(n: u64, kept: &[u64], count: usize, out: &mut [u64])
+    requires { ⌜ (count ≤ length (rowsIn (now kept))) × (count ≤ length (now out)) ⌝ }
+    ensures { λ _. ⌜ now (out .exit) ≡ laid n (reverse (take count (rowsIn (now (kept .entry))))) (now (out .entry)) ⌝ }
 {
-    let count = kept.count;
     for k in 0..count {
-        let u = kept.rows[count - 1 - k];
+        let u = blocks::row(kept, count - 1 - k);
         out[k] = blocks::word(u);
     }
+}
+
+// The rows of n qubits that lent words hold, put into words for work.
+fn load(n: u64, words: &[u64], w: &mut [u64])
+    requires { ⌜ length (rowsOfWords n (now words)) ≤ length (rowsIn (now w)) ⌝ }
+    ensures { λ _. ⌜ rowsIn (now (w .exit)) ≡ over (rowsOfWords n (now (words .entry))) (rowsIn (now (w .entry))) ⌝ }
+{
+    let count = words.len();
+    for i in 0..count {
+        let v = binar::of_word(words[i]);
+        blocks::put(w, i, v);
+    }
+}
+
+// The greedy list of the lent action, laid into lent words; how many turns it has.
+fn lay_list(n: u64, words: &[u64], out: &mut [u64]) -> usize
+    requires { ⌜ (n ≤ maxQubits) × (length (rowsOfWords n (now words)) ≡ n + n) × (4 * n + 2 ≤ length (now out)) ⌝ }
+    ensures { λ r. ⌜ (r ≡ length (greedyList n (rowsOfWords n (now (words .entry)))))
+        × (now (out .exit) ≡ laid n (greedyList n (rowsOfWords n (now (words .entry)))) (now (out .entry))) ⌝ }
+{
+    let mut w = [0u64; symplectic::MOST_ROWS];
+    let mut kept = [0u64; RECORD_ROOM];
+    load(n, words, &mut w);
+    let m = n as usize;
+    let to = blocks::start(&w, m + m);
+    let count = record_turns(n, &mut w[..to], &mut kept);
+    store_reversed(n, &kept, count, out);
+    count
 }
 
 // A list of turns whose product is the lent action, at most four for each qubit.
@@ -194,9 +208,8 @@ pub fn clifford_to_transvections(n: u64, rows: &[u64], out: &mut [u64]) -> Listi
     if out.len() < wanted as usize {
         return Listing::OutputTooShort;
     }
-    let kept = record_turns(symplectic::from_words(n, rows));
-    store_reversed(n, kept, out);
+    let count = lay_list(n, rows, out);
     Listing::Listed {
-        count: kept.count as u64,
+        count: count as u64,
     }
 }

@@ -1,15 +1,20 @@
 // The minimal list: as few turns as any list of the action has, laid into lent words.
 // In the source: transvection_exact.rs, `minimal_decomposition`, `clifford_to_transvections_minimal`.
+use binar::WIDTH;
 use blocks::Block;
 use bordered::Candidate;
 use symplectic::Action;
 use symplectic::Figures;
+use symplectic::MOST_ROWS;
 use symplectic::Question;
-use triangular::Ending;
+use search::Ending;
 ghost use mathlib.Core.Path.{_≡_};
 ghost use Rattle.blocks.specs.Blocks.{rowsOf};
+ghost use Rattle.blocks.specs.Matrices.{matmul};
+ghost use Rattle.blocks.specs.Words.{rowsIn};
 ghost use Rattle.symplectic.specs.Actions.{qubits, matrix};
 ghost use Rattle.symplectic.specs.Replies.{listed, Replays};
+ghost use Rattle.reduction.specs.Residue.{basis as basisOf, core as coreOf};
 ghost use Rattle.triangular.specs.Search.{budgeted};
 ghost use Rattle.transvection_exact.specs.Minimal.{coreSearch, searchedReply, minimalReply};
 ghost use Rattle.transvection_exact.specs.Answers.{figuresOf, Shortest, Exact};
@@ -86,16 +91,27 @@ fn stored(n: u64, list: Block, looks: u64, out: &mut [u64]) -> Minimal
     }
 }
 
-// Questions 6 and 7: the list of the search, else the bordered list.
-fn searched(a: Action, budget: u64, out: &mut [u64]) -> Minimal
+// The draws of a search times the basis, laid into lent words.
+fn multiplied(n: u64, list: &[u64], basis: &[u64], looks: u64, out: &mut [u64]) -> Minimal
+    ensures answered { λ r. ⌜ figuresOf r ≡ listed n (matmul (rowsIn (now (list .entry))) (rowsIn (now (basis .entry)))) looks (now (out .entry)) .figures ⌝ }
+    ensures left { λ r. ⌜ now (out .exit) ≡ listed n (matmul (rowsIn (now (list .entry))) (rowsIn (now (basis .entry)))) looks (now (out .entry)) .words ⌝ }
+{
+    blocks::multiply(n, list, basis, out);
+    Minimal::Listed {
+        count: blocks::rows_in(list) as u64,
+        looks: looks,
+    }
+}
+
+// Questions 6 and 7, from the basis of the residue and the core: the list of the search, else the bordered list.
+fn from_core(a: Action, basis: &[u64], core: &[u64], budget: u64, out: &mut [u64]) -> Minimal
+    requires { ⌜ (rowsIn (now basis) ≡ basisOf (qubits a) (matrix a)) × (rowsIn (now core) ≡ coreOf (qubits a) (matrix a)) ⌝ }
     ensures answered { λ r. ⌜ figuresOf r ≡ searchedReply (qubits a) (matrix a) (budgeted budget (coreSearch (qubits a) (matrix a))) (now (out .entry)) .figures ⌝ }
     ensures left { λ r. ⌜ now (out .exit) ≡ searchedReply (qubits a) (matrix a) (budgeted budget (coreSearch (qubits a) (matrix a))) (now (out .entry)) .words ⌝ }
 {
     let n = symplectic::qubits_of(a) as u64;
-    let c = reduction::residue_core(a);
-    let basis = c.basis;
-    let core = c.core;
-    let o = triangular::congruence_triangularize(core, budget);
+    let mut list = [0u64; WIDTH];
+    let o = search::congruence_triangularize(core, budget, &mut list);
     let looks = o.looks;
     let ending = o.ending;
     match ending {
@@ -103,8 +119,8 @@ fn searched(a: Action, budget: u64, out: &mut [u64]) -> Minimal
             return Minimal::Spent { looks: looks };
         }
         Ending::Found => {
-            let list = o.list;
-            return stored(n, blocks::product(list, basis), looks, out);
+            let to = blocks::start(&list, blocks::rows_in(core));
+            return multiplied(n, &list[..to], basis, looks, out);
         }
         Ending::Failed => {}
     }
@@ -116,8 +132,21 @@ fn searched(a: Action, budget: u64, out: &mut [u64]) -> Minimal
         }
         Candidate::Passed => {}
     }
-    let list = b.list;
-    stored(n, list, looks, out)
+    let bordered = b.list;
+    stored(n, bordered, looks, out)
+}
+
+// Questions 6 and 7 of an action.
+fn searched(a: Action, budget: u64, out: &mut [u64]) -> Minimal
+    ensures answered { λ r. ⌜ figuresOf r ≡ searchedReply (qubits a) (matrix a) (budgeted budget (coreSearch (qubits a) (matrix a))) (now (out .entry)) .figures ⌝ }
+    ensures left { λ r. ⌜ now (out .exit) ≡ searchedReply (qubits a) (matrix a) (budgeted budget (coreSearch (qubits a) (matrix a))) (now (out .entry)) .words ⌝ }
+{
+    let mut basis = [0u64; MOST_ROWS];
+    let mut core = [0u64; MOST_ROWS];
+    let r = reduction::residue_core(a, &mut basis, &mut core);
+    let b = blocks::start(&basis, r);
+    let c = blocks::start(&core, r);
+    from_core(a, &basis[..b], &core[..c], budget, out)
 }
 
 // A list of turns whose product is the lent action, and no list of it is shorter.

@@ -2,12 +2,4 @@ pub mod Complements
 pub mod Alternates
 pub mod Complete
 pub mod Looks
-pub mod Budgets
-pub mod Verdicts
 pub mod Cores
-pub mod Drawing
-pub mod Grams
-pub mod Shrinks
-pub mod Passing
-pub mod Levels
-pub mod Draws

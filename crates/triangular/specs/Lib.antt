@@ -1,4 +1,3 @@
 pub mod Spaces
 pub mod Search
 pub mod Readings
-pub mod inner

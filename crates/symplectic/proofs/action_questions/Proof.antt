@@ -1,16 +1,13 @@
 -- `action_questions` answers the first question that is answered no, by the laws of each question.
 -- Assumes nothing.
-use mathlib.Core.Path.{_≡_, sym, ap₂, _∙_}
-use mathlib.Core.List.{List}
-use Prim.Native.Nat.{ℕ, _+_}
+use mathlib.Core.Path.{_≡_, sym, _∙_}
+use Prim.Native.Nat.{_+_}
 use native.Mathlib.Omega.{arith}
 use lib.ListN.{length}
 use borrow.Author.Tests.{not-true, not-false}
 use Rattle.blocks.specs.Words.{rowsOfWords}
 use Rattle.blocks.proofs.Values.{rows-count}
-use Rattle.symplectic.specs.Turns.{symplectic}
 use Rattle.symplectic.specs.Replies.{fitAll}
-use Rattle.symplectic.proofs.Arrays.{loaded}
 use Rattle.symplectic.proofs.Questions.{fit-capped, question-1, question-2, question-3, question-4, questions-passed}
 use borrow.Author.Needs.{needs}
 use Rattle.symplectic.proofs.action_questions.Statement.{statement}
@@ -20,18 +17,11 @@ use Rattle.symplectic.proofs.action_questions.Tie as tie
 size : (c : tie.Else2) → let s = c .before .before .before .args in length (rowsOfWords (s .n) (s .words .now)) ≡ s .n + s .n
 size c = let s = c .before .before .before .args in rows-count (s .n) (s .words .now) ∙ omega arith
 
--- the two tests of the code are those of the questions
+-- the code's test is that of the question
 fit : (c : tie.After-words-fit) → let s = c .before .before .before .before .args in fitAll (s .n + s .n) (rowsOfWords (s .n) (s .words .now)) ≡ c .words-fit .result
 fit c =
     let s = c .before .before .before .before .args in
     sym (c .words-fit .ensures ∙ fit-capped (s .n) (rowsOfWords (s .n) (s .words .now)) (search needs))
-
-tested : (c : tie.After-is-symplectic) → let s = c .before .before .before .before .before .before .before .args in symplectic (s .n) (rowsOfWords (s .n) (s .words .now)) ≡ c .is-symplectic .result
-tested c =
-    let s = c .before .before .before .before .before .before .before .args in
-    let e = c .before .from-words .ensures in
-    let same = loaded (c .before .from-words .result) (s .n) (rowsOfWords (s .n) (s .words .now)) (search needs) (size (c .before .before .before .before)) (e .0) (e .1) in
-    sym (c .is-symplectic .ensures ∙ ap₂ (λ (n : ℕ) (F : List ℕ). symplectic n F) (same .0) (same .1))
 
 returns : tie.Need-returns
 returns c = let s = c .before .before .args in sym (question-1 (s .n) (rowsOfWords (s .n) (s .words .now)) (search needs))
@@ -52,25 +42,22 @@ returns-3 c =
     let s = c .before .before .before .before .before .args in
     sym (question-3 (s .n) (rowsOfWords (s .n) (s .words .now)) (search needs) (size (c .before .before)) (fit (c .before) ∙ not-true (c .before .words-fit .result) (c .if3 .taken)))
 
-from-words-requires : tie.Need-from-words-requires
-from-words-requires c κs = search needs
-
 is-symplectic-requires : tie.Need-is-symplectic-requires
 is-symplectic-requires c κs = search needs
 
 returns-4 : tie.Need-returns-4
 returns-4 c =
-    let s = c .before .before .before .before .before .before .before .before .args in
-    let f = c .before .before .before .before in
-    sym (question-4 (s .n) (rowsOfWords (s .n) (s .words .now)) (search needs) (size (f .before)) (fit f ∙ not-false (f .words-fit .result) (c .before .before .before .if3 .left))
-    (tested (c .before) ∙ not-true (c .before .is-symplectic .result) (c .if4 .taken)))
+    let s = c .before .before .before .before .before .before .before .args in
+    let f = c .before .before .before in
+    sym (question-4 (s .n) (rowsOfWords (s .n) (s .words .now)) (search needs) (size (f .before)) (fit f ∙ not-false (f .words-fit .result) (c .before .before .if3 .left))
+    (sym (c .before .is-symplectic .ensures) ∙ not-true (c .before .is-symplectic .result) (c .if4 .taken)))
 
 returns-5 : tie.Need-returns-5
 returns-5 c =
-    let s = c .before .before .before .before .before .before .before .before .args in
-    let f = c .before .before .before .before in
-    sym (questions-passed (s .n) (rowsOfWords (s .n) (s .words .now)) (search needs) (size (f .before)) (fit f ∙ not-false (f .words-fit .result) (c .before .before .before .if3 .left))
-    (tested (c .before) ∙ not-false (c .before .is-symplectic .result) (c .if4 .left)))
+    let s = c .before .before .before .before .before .before .before .args in
+    let f = c .before .before .before in
+    sym (questions-passed (s .n) (rowsOfWords (s .n) (s .words .now)) (search needs) (size (f .before)) (fit f ∙ not-false (f .words-fit .result) (c .before .before .if3 .left))
+    (sym (c .before .is-symplectic .ensures) ∙ not-false (c .before .is-symplectic .result) (c .if4 .left)))
 
 pub action-questions-spec : {M : Type 1} → statement M
 action-questions-spec =
@@ -81,7 +68,6 @@ action-questions-spec =
     returns-2
     words-fit-requires
     returns-3
-    from-words-requires
     is-symplectic-requires
     returns-4
     returns-5)

@@ -3,7 +3,7 @@
 use mathlib.Core.Bool.{Bool, false, _&&_}
 use mathlib.Core.List.{List, [], _∷_, zip}
 use Prim.Native.Nat.{ℕ, zero, suc, _+_, _*_, _^_}
-use lib.ListN.{getD}
+use lib.ListN.{getD, take}
 use Rattle.binar.specs.Bits.{_⊻_, bit}
 use Rattle.blocks.specs.Matrices.{units}
 use Rattle.symplectic.specs.Turns.{xBits, zBits, turn, allOf, pairAlike}
@@ -13,9 +13,9 @@ abbrev pub run : ℕ → List ℕ → ℕ → ℕ
 run n [] u = u
 run n (v ∷ vs) u = run n vs (turn n v u)
 
--- row i pairs with every row as its basis vector does with theirs
-unfoldable pub pairsAsBasis : ℕ → List ℕ → ℕ → Bool
-pairsAsBasis n F i = allOf (pairAlike n (getD F i 0, 2 ^ i)) (zip F (units (n + n)))
+-- row i pairs with the rows below row j as its basis vector does with theirs
+unfoldable pub pairsBelow : ℕ → List ℕ → ℕ → ℕ → Bool
+pairsBelow n F i j = allOf (pairAlike n (getD F i 0, 2 ^ i)) (take j (zip F (units (n + n))))
 
 -- a vector with its halves exchanged
 unfoldable pub swapHalves : ℕ → ℕ → ℕ

@@ -1,45 +1,35 @@
--- `store_reversed` lays the turns from the last to the first, one by one, by `turns-back`, `laid-next` and `laid-end`.
+-- `store_reversed` lays the turns from the last to the first, one by one, by `back-at`, `laid-next` and `laid-end`.
 -- Assumes nothing.
 use mathlib.Core.Path.{_≡_, refl, _∙_}
 use mathlib.Core.List.{_++_, reverse}
 use Prim.Native.Nat.{_-_, _≤_, _<_}
 use native.Mathlib.Omega.{arith}
-use lib.ListN.{length, take, drop, length-set, length-reverse}
-use Rattle.blocks.specs.Words.{wordsOfRows}
-use Rattle.blocks.proofs.Values.{laid-next, laid-end, unmapped}
-use Rattle.transvection.specs.inner.Kept.{recordRoom, turns}
-use Rattle.transvection.proofs.Kept.{turns-length, turns-back}
+use lib.ListN.{length, take, drop, length-set}
+use Rattle.blocks.specs.Words.{wordsOfRows, rowsIn}
+use Rattle.blocks.proofs.Values.{laid-next, laid-end}
+use Rattle.transvection.proofs.Kept.{back-length, back-at}
 use borrow.Author.Needs.{needs}
 use Rattle.transvection.proofs.store_reversed.Statement.{statement}
 use Rattle.transvection.proofs.store_reversed.Tie as tie
 
 abbrev Inv-loop : tie.InvT-loop
-Inv-loop n out₀ kept count k₀ out k =
-    (k ≤ count) × (length out ≡ length out₀) × (out ≡ take k (wordsOfRows n (reverse (turns kept))) ++ drop k out₀)
+Inv-loop n kept count out₀ k₀ out k =
+    (k ≤ count) × (length out ≡ length out₀) × (out ≡ take k (wordsOfRows n (reverse (take count (rowsIn kept)))) ++ drop k out₀)
 
 abbrev μ-loop : tie.MeasureT-loop
-μ-loop n out₀ kept count k₀ out k = count - k
-
-long : (c : tie.Start Inv-loop μ-loop) → length (c .args .t2 .rows) ≡ recordRoom
-long c = search (needs, unmapped)
-
-size : (c : tie.Start Inv-loop μ-loop) → length (reverse (turns (c .args .t2))) ≡ c .args .t2 .count
-size c = length-reverse (turns (c .args .t2)) ∙ turns-length (c .args .t2) (long c) (search needs)
+μ-loop n kept count out₀ k₀ out k = count - k
 
 loop-holds : tie.Need-loop-holds Inv-loop μ-loop
 loop-holds c = (search needs, refl, refl)
 
-sub-u : tie.Need-sub-u Inv-loop μ-loop
-sub-u c = search needs
+sub-row : tie.Need-sub-row Inv-loop μ-loop
+sub-row c = search needs
 
-sub-u-2 : tie.Need-sub-u-2 Inv-loop μ-loop
-sub-u-2 c = search needs
+sub-row-2 : tie.Need-sub-row-2 Inv-loop μ-loop
+sub-row-2 c = search needs
 
-mul-u : tie.Need-mul-u Inv-loop μ-loop
-mul-u c = search needs
-
-element-copy-out-u : tie.Need-element-copy-out-u Inv-loop μ-loop
-element-copy-out-u c = search needs
+row-requires : tie.Need-row-requires Inv-loop μ-loop
+row-requires c κs = search needs
 
 word-requires : tie.Need-word-requires Inv-loop μ-loop
 word-requires c κs = search needs
@@ -58,14 +48,15 @@ loop-less c = search needs
 
 loop-again : tie.Need-loop-again Inv-loop μ-loop
 loop-again c =
-    let s = c .before .before .before .before .before in
+    let s = c .before .before .before .before .before .before .args in
     let at = c .before .before .before .loop in
-    let n = size s in
-    let g : at .k < length (s .args .out .now) = search needs in (
+    let l = rowsIn (s .kept .now) in
+    let fits = c .before .before .before .before .before .before .pre .0 in
+    let h : at .k < s .count = search needs in (
       search needs,
       simp length-set (at .inv .1),
-      laid-next (s .args .n) (reverse (turns (s .args .t2))) (s .args .out .now) (at .out) (at .k) _ _ (omega arith) g (at .inv .2) (c .word .ensures)
-          (turns-back (s .args .t2) (long s) (search needs) (at .k) (search needs)),
+      laid-next (s .n) (reverse (take (s .count) l)) (s .out .now) (at .out) (at .k) _ _ (omega (arith, back-length l (s .count) fits)) (omega arith) (at .inv .2) (c .word .ensures)
+          (c .before .row .ensures ∙ back-at l (s .count) fits (at .k) h),
     )
 
 same-length : tie.Need-same-length Inv-loop μ-loop
@@ -73,10 +64,9 @@ same-length c = search needs
 
 returns : tie.Need-returns Inv-loop μ-loop
 returns c =
-    let s = c .before .before .before in
-    let n = size s in
-    let fits : s .args .t2 .count ≤ length (s .args .out .now) = search needs in
-    c .before .loop .inv .2 ∙ laid-end (s .args .n) (reverse (turns (s .args .t2))) (s .args .out .now) (c .before .loop .k) (omega arith)
+    let s = c .before .before .before .before .args in
+    let l = rowsIn (s .kept .now) in
+    c .before .loop .inv .2 ∙ laid-end (s .n) (reverse (take (s .count) l)) (s .out .now) (c .before .loop .k) (omega (arith, back-length l (s .count) (c .before .before .before .before .pre .0)))
 
 pub store-reversed-spec : {M : Type 1} → statement M
 store-reversed-spec =
@@ -85,10 +75,9 @@ store-reversed-spec =
     Inv-loop
     μ-loop
     loop-holds
-    sub-u
-    sub-u-2
-    mul-u
-    element-copy-out-u
+    sub-row
+    sub-row-2
+    row-requires
     word-requires
     mul-out
     slice-write-out

@@ -1,18 +1,20 @@
 -- `validate` answers by the first test that fails, or by the last, as `family-tests` has them.
 -- Assumes nothing.
 use Rattle.bordered.proofs.Verdicts.{chain, chain-left, chain-stops, family-tests}
+use Rattle.bordered.proofs.Relation.{family-odd}
 use Rattle.bordered.specs.Checks.{oddRelation, relationSum, unitLower}
 use Rattle.family.specs.Readings.{listOf}
 use Rattle.reduction.specs.Residue.{form}
 use Rattle.reduction.specs.Columns.{rank}
 use Rattle.symplectic.specs.Replies.{fitAll}
 use Rattle.blocks.specs.Blocks.{rowsOf}
+use Rattle.blocks.specs.Words.{rowsIn}
 use borrow.Author.Tests.{not-true, not-false}
 use lib.ListN.{length}
 use lib.Dec.{eqb}
 use Prim.Native.Nat.{ℕ, suc}
 use mathlib.Core.List.{[], _∷_}
-use mathlib.Core.Path.{sym, ap, _∙_}
+use mathlib.Core.Path.{_≡_, sym, ap, _∙_}
 use borrow.Author.Needs.{needs}
 use Rattle.bordered.proofs.checks.validate.Statement.{statement}
 use Rattle.bordered.proofs.checks.validate.Tie as tie
@@ -22,8 +24,8 @@ fit-all-requires c κs = search needs
 
 returns : tie.Need-returns
 returns c =
-    let s = c .before .before .before .args in
-    let E = form (rowsOf (s .core)) in
+    let s = c .before .before .before .before .args in
+    let E = form (rowsIn (s .core .now)) in
     let l = listOf (s .f) in
     let vs = rowsOf (s .f .vectors) in
     let A = fitAll (s .r) vs in
@@ -42,8 +44,8 @@ one-more-requires c κs = search needs
 
 returns-2 : tie.Need-returns-2
 returns-2 c =
-    let s = c .before .before .before .before .before .before .args in
-    let E = form (rowsOf (s .core)) in
+    let s = c .before .before .before .before .before .before .before .args in
+    let E = form (rowsIn (s .core .now)) in
     let l = listOf (s .f) in
     let vs = rowsOf (s .f .vectors) in
     let A = fitAll (s .r) vs in
@@ -57,10 +59,14 @@ returns-2 c =
 odd-relation-requires : tie.Need-odd-relation-requires
 odd-relation-requires c κs = search needs
 
+-- the parity is that of the relation
+odd-told : (c : tie.After-odd-relation) → oddRelation (listOf (c .before .before .before .before .before .before .before .before .args .f)) ≡ c .odd-relation .result
+odd-told c = sym (c .odd-relation .ensures ∙ family-odd (c .before .before .before .before .before .before .before .before .args .f) (c .before .before .before .length-of .result) (c .before .before .before .length-of .ensures))
+
 returns-3 : tie.Need-returns-3
 returns-3 c =
-    let s = c .before .before .before .before .before .before .before .before .args in
-    let E = form (rowsOf (s .core)) in
+    let s = c .before .before .before .before .before .before .before .before .before .args in
+    let E = form (rowsIn (s .core .now)) in
     let l = listOf (s .f) in
     let vs = rowsOf (s .f .vectors) in
     let A = fitAll (s .r) vs in
@@ -69,15 +75,15 @@ returns-3 c =
     let G = unitLower E l in
     let H = eqb (relationSum l) 0 in
     let K = eqb (rank (s .r) vs) (s .r) in
-    chain-stops (A ∷ B ∷ []) D (chain (G ∷ H ∷ []) K) (sym (c .before .before .before .before .before .before .fit-all .ensures) ∙ not-false (c .before .before .before .before .before .before .fit-all .result) (c .before .before .before .before .before .if1 .left), (sym (c .before .before .before .one-more .ensures ∙ ap (λ (m : ℕ). eqb m (suc (s .r))) (c .before .before .before .before .length-of .ensures)) ∙ not-false (c .before .before .before .one-more .result) (c .before .before .if2 .left), tt)) (sym (c .before .odd-relation .ensures) ∙ not-true (c .before .odd-relation .result) (c .if3 .taken)) ∙ family-tests (s .r) E (s .f)
+    chain-stops (A ∷ B ∷ []) D (chain (G ∷ H ∷ []) K) (sym (c .before .before .before .before .before .before .fit-all .ensures) ∙ not-false (c .before .before .before .before .before .before .fit-all .result) (c .before .before .before .before .before .if1 .left), (sym (c .before .before .before .one-more .ensures ∙ ap (λ (m : ℕ). eqb m (suc (s .r))) (c .before .before .before .before .length-of .ensures)) ∙ not-false (c .before .before .before .one-more .result) (c .before .before .if2 .left), tt)) (odd-told (c .before) ∙ not-true (c .before .odd-relation .result) (c .if3 .taken)) ∙ family-tests (s .r) E (s .f)
 
 unit-lower-requires : tie.Need-unit-lower-requires
 unit-lower-requires c κs = search needs
 
 returns-4 : tie.Need-returns-4
 returns-4 c =
-    let s = c .before .before .before .before .before .before .before .before .before .before .args in
-    let E = form (rowsOf (s .core)) in
+    let s = c .before .before .before .before .before .before .before .before .before .before .before .args in
+    let E = form (rowsIn (s .core .now)) in
     let l = listOf (s .f) in
     let vs = rowsOf (s .f .vectors) in
     let A = fitAll (s .r) vs in
@@ -86,7 +92,7 @@ returns-4 c =
     let G = unitLower E l in
     let H = eqb (relationSum l) 0 in
     let K = eqb (rank (s .r) vs) (s .r) in
-    chain-stops (A ∷ B ∷ D ∷ []) G (chain (H ∷ []) K) (sym (c .before .before .before .before .before .before .before .before .fit-all .ensures) ∙ not-false (c .before .before .before .before .before .before .before .before .fit-all .result) (c .before .before .before .before .before .before .before .if1 .left), (sym (c .before .before .before .before .before .one-more .ensures ∙ ap (λ (m : ℕ). eqb m (suc (s .r))) (c .before .before .before .before .before .before .length-of .ensures)) ∙ not-false (c .before .before .before .before .before .one-more .result) (c .before .before .before .before .if2 .left), (sym (c .before .before .before .odd-relation .ensures) ∙ not-false (c .before .before .before .odd-relation .result) (c .before .before .if3 .left), tt))) (sym (c .before .unit-lower .ensures) ∙ not-true (c .before .unit-lower .result) (c .if4 .taken)) ∙ family-tests (s .r) E (s .f)
+    chain-stops (A ∷ B ∷ D ∷ []) G (chain (H ∷ []) K) (sym (c .before .before .before .before .before .before .before .before .fit-all .ensures) ∙ not-false (c .before .before .before .before .before .before .before .before .fit-all .result) (c .before .before .before .before .before .before .before .if1 .left), (sym (c .before .before .before .before .before .one-more .ensures ∙ ap (λ (m : ℕ). eqb m (suc (s .r))) (c .before .before .before .before .before .before .length-of .ensures)) ∙ not-false (c .before .before .before .before .before .one-more .result) (c .before .before .before .before .if2 .left), (odd-told (c .before .before .before) ∙ not-false (c .before .before .before .odd-relation .result) (c .before .before .if3 .left), tt))) (sym (c .before .unit-lower .ensures) ∙ not-true (c .before .unit-lower .result) (c .if4 .taken)) ∙ family-tests (s .r) E (s .f)
 
 relation-sum-requires : tie.Need-relation-sum-requires
 relation-sum-requires c κs = search needs
@@ -96,8 +102,8 @@ is-zero-requires c κs = search needs
 
 returns-5 : tie.Need-returns-5
 returns-5 c =
-    let s = c .before .before .before .before .before .before .before .before .before .before .before .before .before .args in
-    let E = form (rowsOf (s .core)) in
+    let s = c .before .before .before .before .before .before .before .before .before .before .before .before .before .before .args in
+    let E = form (rowsIn (s .core .now)) in
     let l = listOf (s .f) in
     let vs = rowsOf (s .f .vectors) in
     let A = fitAll (s .r) vs in
@@ -106,15 +112,15 @@ returns-5 c =
     let G = unitLower E l in
     let H = eqb (relationSum l) 0 in
     let K = eqb (rank (s .r) vs) (s .r) in
-    chain-stops (A ∷ B ∷ D ∷ G ∷ []) H K (sym (c .before .before .before .before .before .before .before .before .before .before .before .fit-all .ensures) ∙ not-false (c .before .before .before .before .before .before .before .before .before .before .before .fit-all .result) (c .before .before .before .before .before .before .before .before .before .before .if1 .left), (sym (c .before .before .before .before .before .before .before .before .one-more .ensures ∙ ap (λ (m : ℕ). eqb m (suc (s .r))) (c .before .before .before .before .before .before .before .before .before .length-of .ensures)) ∙ not-false (c .before .before .before .before .before .before .before .before .one-more .result) (c .before .before .before .before .before .before .before .if2 .left), (sym (c .before .before .before .before .before .before .odd-relation .ensures) ∙ not-false (c .before .before .before .before .before .before .odd-relation .result) (c .before .before .before .before .before .if3 .left), (sym (c .before .before .before .before .unit-lower .ensures) ∙ not-false (c .before .before .before .before .unit-lower .result) (c .before .before .before .if4 .left), tt)))) (sym (c .before .is-zero .ensures ∙ ap (λ (v : ℕ). eqb v 0) (c .before .before .relation-sum .ensures)) ∙ not-true (c .before .is-zero .result) (c .if5 .taken)) ∙ family-tests (s .r) E (s .f)
+    chain-stops (A ∷ B ∷ D ∷ G ∷ []) H K (sym (c .before .before .before .before .before .before .before .before .before .before .before .fit-all .ensures) ∙ not-false (c .before .before .before .before .before .before .before .before .before .before .before .fit-all .result) (c .before .before .before .before .before .before .before .before .before .before .if1 .left), (sym (c .before .before .before .before .before .before .before .before .one-more .ensures ∙ ap (λ (m : ℕ). eqb m (suc (s .r))) (c .before .before .before .before .before .before .before .before .before .length-of .ensures)) ∙ not-false (c .before .before .before .before .before .before .before .before .one-more .result) (c .before .before .before .before .before .before .before .if2 .left), (odd-told (c .before .before .before .before .before .before) ∙ not-false (c .before .before .before .before .before .before .odd-relation .result) (c .before .before .before .before .before .if3 .left), (sym (c .before .before .before .before .unit-lower .ensures) ∙ not-false (c .before .before .before .before .unit-lower .result) (c .before .before .before .if4 .left), tt)))) (sym (c .before .is-zero .ensures ∙ ap (λ (v : ℕ). eqb v 0) (c .before .before .relation-sum .ensures)) ∙ not-true (c .before .is-zero .result) (c .if5 .taken)) ∙ family-tests (s .r) E (s .f)
 
 rank-requires : tie.Need-rank-requires
 rank-requires c κs = search needs
 
 returns-6 : tie.Need-returns-6
 returns-6 c =
-    let s = c .before .before .before .before .before .before .before .before .before .before .before .before .before .before .args in
-    let E = form (rowsOf (s .core)) in
+    let s = c .before .before .before .before .before .before .before .before .before .before .before .before .before .before .before .args in
+    let E = form (rowsIn (s .core .now)) in
     let l = listOf (s .f) in
     let vs = rowsOf (s .f .vectors) in
     let A = fitAll (s .r) vs in
@@ -123,7 +129,7 @@ returns-6 c =
     let G = unitLower E l in
     let H = eqb (relationSum l) 0 in
     let K = eqb (rank (s .r) vs) (s .r) in
-    chain-left (A ∷ B ∷ D ∷ G ∷ H ∷ []) K (eqb (c .rank .result) (s .r)) (sym (c .before .before .before .before .before .before .before .before .before .before .before .before .fit-all .ensures) ∙ not-false (c .before .before .before .before .before .before .before .before .before .before .before .before .fit-all .result) (c .before .before .before .before .before .before .before .before .before .before .before .if1 .left), (sym (c .before .before .before .before .before .before .before .before .before .one-more .ensures ∙ ap (λ (m : ℕ). eqb m (suc (s .r))) (c .before .before .before .before .before .before .before .before .before .before .length-of .ensures)) ∙ not-false (c .before .before .before .before .before .before .before .before .before .one-more .result) (c .before .before .before .before .before .before .before .before .if2 .left), (sym (c .before .before .before .before .before .before .before .odd-relation .ensures) ∙ not-false (c .before .before .before .before .before .before .before .odd-relation .result) (c .before .before .before .before .before .before .if3 .left), (sym (c .before .before .before .before .before .unit-lower .ensures) ∙ not-false (c .before .before .before .before .before .unit-lower .result) (c .before .before .before .before .if4 .left), (sym (c .before .before .is-zero .ensures ∙ ap (λ (v : ℕ). eqb v 0) (c .before .before .before .relation-sum .ensures)) ∙ not-false (c .before .before .is-zero .result) (c .before .if5 .left), tt))))) (ap (λ (k : ℕ). eqb k (s .r)) (c .rank .ensures)) ∙ family-tests (s .r) E (s .f)
+    chain-left (A ∷ B ∷ D ∷ G ∷ H ∷ []) K (eqb (c .rank .result) (s .r)) (sym (c .before .before .before .before .before .before .before .before .before .before .before .before .fit-all .ensures) ∙ not-false (c .before .before .before .before .before .before .before .before .before .before .before .before .fit-all .result) (c .before .before .before .before .before .before .before .before .before .before .before .if1 .left), (sym (c .before .before .before .before .before .before .before .before .before .one-more .ensures ∙ ap (λ (m : ℕ). eqb m (suc (s .r))) (c .before .before .before .before .before .before .before .before .before .before .length-of .ensures)) ∙ not-false (c .before .before .before .before .before .before .before .before .before .one-more .result) (c .before .before .before .before .before .before .before .before .if2 .left), (odd-told (c .before .before .before .before .before .before .before) ∙ not-false (c .before .before .before .before .before .before .before .odd-relation .result) (c .before .before .before .before .before .before .if3 .left), (sym (c .before .before .before .before .before .unit-lower .ensures) ∙ not-false (c .before .before .before .before .before .unit-lower .result) (c .before .before .before .before .if4 .left), (sym (c .before .before .is-zero .ensures ∙ ap (λ (v : ℕ). eqb v 0) (c .before .before .before .relation-sum .ensures)) ∙ not-false (c .before .before .is-zero .result) (c .before .if5 .left), tt))))) (ap (λ (k : ℕ). eqb k (s .r)) (c .rank .ensures)) ∙ family-tests (s .r) E (s .f)
 
 pub validate-spec : {M : Type 1} → statement M
 validate-spec =

@@ -2,7 +2,7 @@
 -- Assumes nothing.
 use Rattle.bordered.proofs.Verdicts.{chain, chain-left, chain-stops, list-tests}
 use Rattle.symplectic.specs.Matches.{sameRows}
-use Rattle.symplectic.proofs.Arrays.{qubits-le, qubits-capped}
+use Rattle.symplectic.proofs.Arrays.{qubits-le}
 use Rattle.symplectic.specs.Replies.{fitAll}
 use Rattle.symplectic.specs.Turns.{allOf, product}
 use Rattle.symplectic.specs.Actions.{qubits, matrix}
@@ -11,7 +11,7 @@ use borrow.Author.Tests.{not-true, not-false}
 use lib.ListN.{length}
 use lib.Dec.{eqb}
 use Prim.Native.Nat.{ℕ, suc, _+_}
-use mathlib.Core.List.{List, [], _∷_}
+use mathlib.Core.List.{[], _∷_}
 use mathlib.Core.Bool.{not}
 use mathlib.Core.Path.{sym, ap, _∙_}
 use native.Mathlib.Omega.{arith}
@@ -73,15 +73,12 @@ returns-3 c =
     let G = sameRows (product n vs) F in
     chain-stops (A ∷ B ∷ []) D G (sym (c .before .before .before .before .before .before .one-more .ensures ∙ ap (λ (m : ℕ). eqb m (suc (s .r))) (c .before .before .before .before .before .before .before .length-of .ensures)) ∙ not-false (c .before .before .before .before .before .before .one-more .result) (c .before .before .before .before .before .if1 .left), (sym (c .before .before .before .before .none-zero .ensures) ∙ not-false (c .before .before .before .before .none-zero .result) (c .before .before .before .if2 .left), tt)) (sym (c .before .fit-all .ensures ∙ ap (λ (m : ℕ). fitAll (m + m) vs) (c .before .before .qubits-of .ensures)) ∙ not-true (c .before .fit-all .result) (c .if3 .taken)) ∙ list-tests n F (s .r) vs
 
-product-requires : tie.Need-product-requires
-product-requires c κs = search needs
-
-same-rows-requires : tie.Need-same-rows-requires
-same-rows-requires c κs = search needs
+is-product-requires : tie.Need-is-product-requires
+is-product-requires c κs = search needs
 
 returns-4 : tie.Need-returns-4
 returns-4 c =
-    let s = c .before .before .before .before .before .before .before .before .before .before .args in
+    let s = c .before .before .before .before .before .before .before .before .before .args in
     let n = qubits (s .a) in
     let F = matrix (s .a) in
     let vs = rowsOf (s .vectors) in
@@ -89,7 +86,7 @@ returns-4 c =
     let B = allOf (λ v. not (eqb v 0)) vs in
     let D = fitAll (n + n) vs in
     let G = sameRows (product n vs) F in
-    chain-left (A ∷ B ∷ D ∷ []) G (c .same-rows .result) (sym (c .before .before .before .before .before .before .before .before .one-more .ensures ∙ ap (λ (m : ℕ). eqb m (suc (s .r))) (c .before .before .before .before .before .before .before .before .before .length-of .ensures)) ∙ not-false (c .before .before .before .before .before .before .before .before .one-more .result) (c .before .before .before .before .before .before .before .if1 .left), (sym (c .before .before .before .before .before .before .none-zero .ensures) ∙ not-false (c .before .before .before .before .before .before .none-zero .result) (c .before .before .before .before .before .if2 .left), (sym (c .before .before .before .fit-all .ensures ∙ ap (λ (m : ℕ). fitAll (m + m) vs) (c .before .before .before .before .qubits-of .ensures)) ∙ not-false (c .before .before .before .fit-all .result) (c .before .before .if3 .left), tt))) (c .same-rows .ensures ∙ ap (λ (P : List ℕ). sameRows P F) (c .before .product .ensures .1 ∙ ap (λ (m : ℕ). product m vs) (sym (qubits-capped (s .a))))) ∙ list-tests n F (s .r) vs
+    chain-left (A ∷ B ∷ D ∷ []) G (c .is-product .result) (sym (c .before .before .before .before .before .before .before .one-more .ensures ∙ ap (λ (m : ℕ). eqb m (suc (s .r))) (c .before .before .before .before .before .before .before .before .length-of .ensures)) ∙ not-false (c .before .before .before .before .before .before .before .one-more .result) (c .before .before .before .before .before .before .if1 .left), (sym (c .before .before .before .before .before .none-zero .ensures) ∙ not-false (c .before .before .before .before .before .none-zero .result) (c .before .before .before .before .if2 .left), (sym (c .before .before .fit-all .ensures ∙ ap (λ (m : ℕ). fitAll (m + m) vs) (c .before .before .before .qubits-of .ensures)) ∙ not-false (c .before .before .fit-all .result) (c .before .if3 .left), tt))) (c .is-product .ensures) ∙ list-tests n F (s .r) vs
 
 pub verifies-bordered-decomposition-spec : {M : Type 1} → statement M
 verifies-bordered-decomposition-spec =
@@ -104,6 +101,5 @@ verifies-bordered-decomposition-spec =
     add-fit-all
     fit-all-requires
     returns-3
-    product-requires
-    same-rows-requires
+    is-product-requires
     returns-4)

@@ -1,0 +1,8 @@
+pub mod Budgets
+pub mod Verdicts
+pub mod Drawing
+pub mod Grams
+pub mod Shrinks
+pub mod Passing
+pub mod Levels
+pub mod Draws

@@ -1,0 +1,25 @@
+-- `added` sums where the bit is set.
+-- Assumes nothing.
+use mathlib.Core.Path.{_≡_, sym, ap, _∙_}
+use Rattle.binar.specs.Bits.{select, _⊕_}
+use Rattle.binar.specs.Rows.{val}
+use Rattle.binar.proofs.Sums.{sum-zero}
+use borrow.Author.Needs.{needs}
+use Rattle.search.proofs.added.Statement.{statement}
+use Rattle.search.proofs.added.Tie as tie
+
+sum-requires : tie.Need-sum-requires
+sum-requires c κs = search needs
+
+returns : tie.Need-returns
+returns c =
+    let s = c .before .before .args in
+    c .sum .ensures ∙ ap (λ b. val (s .x) ⊕ select 0 b (val (s .h))) (sym (c .before .if1 .taken))
+
+returns-2 : tie.Need-returns-2
+returns-2 c =
+    let s = c .before .args in
+    sym (ap (λ b. val (s .x) ⊕ select 0 b (val (s .h))) (c .if1 .left) ∙ sum-zero (val (s .x)))
+
+pub added-spec : {M : Type 1} → statement M
+added-spec = tie.close (tie.spec sum-requires returns returns-2)

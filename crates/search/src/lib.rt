@@ -1,0 +1,341 @@
+// The search for a basis that makes the core triangular, draw by draw under a budget.
+// In the source: transvection_exact.rs, `is_alternating`, `SpanVectors`, `right_orthogonal_complement`, `triangularize_subspace`, `congruence_triangularize`.
+// A space stands in two lent slices: the members of its basis, and its Gram matrix, in row i the forms of member i with each member. In
+// dimension d these are d rows of each; d more are for the sums of the first Gram rows, and for the draw by its coefficients behind the
+// members. Behind them stands, in the same way, the space that the draw passes on.
+use binar::Row;
+use binar::WIDTH;
+ghost use mathlib.Core.Path.{_≡_};
+ghost use mathlib.Core.Bool.{true};
+ghost use mathlib.Core.List.{List};
+ghost use Prim.Native.Nat.{ℕ, suc, _+_, _-_, _^_, _≤_, _<_};
+ghost use lib.Dec.{ltb};
+ghost use lib.ListN.{length, getD, take, drop};
+ghost use Rattle.binar.specs.Bits.{select, _⊕_, dot};
+ghost use Rattle.binar.specs.Rows.{val, width};
+ghost use Rattle.blocks.specs.Matrices.{times, units};
+ghost use Rattle.blocks.specs.Words.{rowsIn, over};
+ghost use Rattle.reduction.specs.Residue.{form};
+ghost use Rattle.triangular.specs.Spaces.{complement, isAlternating};
+ghost use Rattle.triangular.specs.Search.{failed, afterRest, search, budgeted};
+ghost use Rattle.triangular.specs.Readings.{coreIn, basisFound};
+ghost use Rattle.search.specs.Endings.{verdictOf};
+ghost use Rattle.search.specs.inner.Levels.{levels, foundIn, keptOr, passedAt, gramOf, shrunk as shrunkOf};
+
+pub enum Ending {
+    Found,
+    Failed,
+    Spent,
+}
+
+// How a search ended, and how many draws have been taken by then.
+pub struct Ended {
+    pub ending: Ending,
+    pub looks: u64,
+}
+
+// Whether the form is alternating: each member is tested with those before it, then with itself.
+fn is_alternating(gram: &[u64], d: usize) -> bool
+    requires { ⌜ (d ≤ width) × (d ≤ length (rowsIn (now gram))) ⌝ }
+    ensures { λ r. ⌜ ((E B : List ℕ) → gramOf E B ≡ take d (rowsIn (now (gram .entry))) → r ≡ isAlternating (form E) B) ⌝ }
+{
+    let mut i: usize = 0;
+    let mut j: usize = 0;
+    while i < d {
+        let row = blocks::row(gram, i);
+        if j < i {
+            if binar::bit(row, j) != binar::bit(blocks::row(gram, j), i) {
+                return false;
+            }
+            j += 1;
+        } else {
+            if binar::bit(row, i) {
+                return false;
+            }
+            i += 1;
+            j = 0;
+        }
+    }
+    true
+}
+
+// Behind the rows, at i: the sum of rows 0 to i.
+fn sums(w: &mut [u64], d: usize)
+    requires { ⌜ (d ≤ width) × (d + d ≤ length (rowsIn (now w))) ⌝ }
+    ensures { λ _. ⌜ (take d (rowsIn (now (w .exit))) ≡ take d (rowsIn (now (w .entry))))
+        × ((i : ℕ) → i < d → getD (rowsIn (now (w .exit))) (d + i) 0 ≡ times (2 ^ suc i - 1) (take d (rowsIn (now (w .entry))))) ⌝ }
+{
+    let mut s = binar::zero();
+    for i in 0..d {
+        s = binar::sum(s, blocks::row(w, i));
+        blocks::put(w, d + i, s);
+    }
+}
+
+// x, and h with it where the bit is set.
+fn added(x: Row, h: Row, hit: bool) -> Row
+    ensures { λ r. ⌜ val r ≡ val x ⊕ select 0 hit (val h) ⌝ }
+{
+    if hit { binar::sum(x, h) } else { x }
+}
+
+// The row x before the dropped one, else the row y behind it, m added where it is hit.
+fn passed(x: Row, y: Row, m: Row, before: bool, hit: bool) -> Row
+    ensures { λ r. ⌜ val r ≡ keptOr before (val x) (val y ⊕ select 0 hit (val m)) ⌝ }
+{
+    if before {
+        return x;
+    }
+    added(y, m, hit)
+}
+
+fn less(i: usize, j: usize) -> bool
+    ensures { λ r. ⌜ r ≡ ltb i j ⌝ }
+{
+    i < j
+}
+
+// Row j is dropped and added to each later row of h; what is passed on is put behind the level.
+fn pass(w: &mut [u64], d: usize, h: Row, j: usize)
+    requires { ⌜ (0 < d) × (d ≤ width) × (d + d + (d - 1) ≤ length (rowsIn (now w))) ⌝ }
+    ensures { λ _. ⌜ (take (d + d) (rowsIn (now (w .exit))) ≡ take (d + d) (rowsIn (now (w .entry))))
+        × (j < d → (i : ℕ) → i < d - 1 → getD (rowsIn (now (w .exit))) (d + d + i) 0 ≡ passedAt (val h) j (take d (rowsIn (now (w .entry)))) i) ⌝ }
+{
+    let to = d + d;
+    let last = d - 1;
+    let m = blocks::row(w, j);
+    for i in 0..last {
+        let n = i + 1;
+        let v = passed(
+            blocks::row(w, i),
+            blocks::row(w, n),
+            m,
+            less(i, j),
+            binar::bit(h, n),
+        );
+        blocks::put(w, to + i, v);
+    }
+}
+
+// A Gram row once member j has been added to those of h and dropped: so are the columns.
+fn shrunk(x: Row, h: Row, j: usize) -> Row
+    ensures { λ r. ⌜ val r ≡ shrunkOf j (val h) (val x) ⌝ }
+{
+    let y = added(x, h, binar::bit(x, j));
+    let low = binar::low(y, j);
+    binar::sum(low, binar::shift_down(binar::sum(y, low), 1))
+}
+
+// The columns of what is passed on, behind the level.
+fn shrink(gram: &mut [u64], d: usize, h: Row, j: usize)
+    requires { ⌜ (0 < d) × (d ≤ width) × (d + d + (d - 1) ≤ length (rowsIn (now gram))) ⌝ }
+    ensures { λ _. ⌜ (take (d + d) (rowsIn (now (gram .exit))) ≡ take (d + d) (rowsIn (now (gram .entry))))
+        × ((i : ℕ) → i < d - 1 → getD (rowsIn (now (gram .exit))) (d + d + i) 0 ≡ shrunkOf j (val h) (getD (rowsIn (now (gram .entry))) (d + d + i) 0)) ⌝ }
+{
+    let to = d + d;
+    let last = d - 1;
+    for i in 0..last {
+        blocks::put(gram, to + i, shrunk(blocks::row(gram, to + i), h, j));
+    }
+}
+
+// The search of what a draw passes on: c are its coefficients, and g, the Gram rows of c, says which members it has form one with.
+fn try_draw(
+    basis: &mut [u64],
+    gram: &mut [u64],
+    d: usize,
+    c: Row,
+    g: Row,
+    looks: u64,
+    budget: u64,
+) -> Ended
+    requires { ⌜ (0 < d) × (d ≤ width) × (levels d ≤ length (rowsIn (now basis))) × (levels d ≤ length (rowsIn (now gram))) × (looks ≤ budget)
+        × (val g ≡ times (val c) (take d (rowsIn (now gram)))) × (dot (val c) (val g) ≡ true) ⌝ }
+    ensures { λ r. ⌜ (r .looks ≤ budget) × (take d (rowsIn (now (basis .exit))) ≡ take d (rowsIn (now (basis .entry))))
+        × (take (d + d) (rowsIn (now (gram .exit))) ≡ take (d + d) (rowsIn (now (gram .entry))))
+        × ((E : List ℕ) → gramOf E (take d (rowsIn (now (basis .entry)))) ≡ take d (rowsIn (now (gram .entry)))
+        → (let p = times (val c) (take d (rowsIn (now (basis .entry)))) in verdictOf (r .ending) (r .looks) (foundIn d (rowsIn (now (basis .exit))))
+        ≡ budgeted budget (afterRest p failed (search (form E) (d - 1) (complement (form E p) (take d (rowsIn (now (basis .entry))))) looks)))) ⌝ }
+{
+    let j = binar::lowest(g);
+    pass(basis, d, g, j);
+    pass(gram, d, g, j);
+    shrink(gram, d, g, j);
+    blocks::put(basis, d, c);
+    let b = blocks::start(&basis[..], d + d);
+    let s = blocks::start(&gram[..], d + d);
+    try_space(&mut basis[b..], &mut gram[s..], d - 1, looks, budget)
+}
+
+// The search of a space: its vectors in the order of their coefficients c, the Gram rows of each from those of the one before it.
+fn try_space(basis: &mut [u64], gram: &mut [u64], d: usize, looks: u64, budget: u64) -> Ended
+    requires { ⌜ (d ≤ width) × (levels d ≤ length (rowsIn (now basis))) × (levels d ≤ length (rowsIn (now gram))) × (looks ≤ budget) ⌝ }
+    ensures { λ r. ⌜ (r .looks ≤ budget) × ((E : List ℕ) → gramOf E (take d (rowsIn (now (basis .entry)))) ≡ take d (rowsIn (now (gram .entry)))
+        → verdictOf (r .ending) (r .looks) (foundIn d (rowsIn (now (basis .exit)))) ≡ budgeted budget (search (form E) d (take d (rowsIn (now (basis .entry)))) looks)) ⌝ }
+{
+    if d == 0 {
+        return Ended {
+            ending: Ending::Found,
+            looks: looks,
+        };
+    }
+    if is_alternating(&gram[..], d) {
+        return Ended {
+            ending: Ending::Failed,
+            looks: looks,
+        };
+    }
+    sums(gram, d);
+    let last = binar::low_ones(d);
+    let mut c = binar::zero();
+    let mut g = c;
+    let mut spent = looks;
+    while binar::less(c, last) {
+        c = binar::next(c);
+        if spent == budget {
+            return Ended {
+                ending: Ending::Spent,
+                looks: spent,
+            };
+        }
+        spent += 1;
+        g = binar::sum(g, blocks::row(gram, d + binar::lowest(c)));
+        if binar::dot(c, g) {
+            let o = try_draw(basis, gram, d, c, g, spent, budget);
+            let e = o.ending;
+            match e {
+                Ending::Failed => {
+                    spent = o.looks;
+                }
+                _ => {
+                    return o;
+                }
+            }
+        }
+    }
+    Ended {
+        ending: Ending::Failed,
+        looks: spent,
+    }
+}
+
+// The draw that the level of dimension d from row `at` on keeps.
+fn draw_at(basis: &[u64], at: usize, d: usize) -> Row
+    requires { ⌜ (at + d ≤ length (rowsIn (now basis))) ⌝ }
+    ensures { λ r. ⌜ val r ≡ times (getD (drop at (rowsIn (now (basis .entry)))) d 0) (take d (drop at (rowsIn (now (basis .entry))))) ⌝ }
+{
+    let from = blocks::start(basis, at);
+    let to = blocks::start(basis, at + d);
+    blocks::times(blocks::row(basis, at + d), &basis[from..to])
+}
+
+// The draws that a search has kept, one of each level, put over a lent list.
+fn collected(basis: &[u64], k: usize, list: &mut [u64])
+    requires { ⌜ (k ≤ width) × (levels k ≤ length (rowsIn (now basis))) ⌝ }
+    ensures { λ _. ⌜ rowsIn (now (list .exit)) ≡ over (foundIn k (rowsIn (now (basis .entry)))) (rowsIn (now (list .entry))) ⌝ }
+{
+    let n = blocks::lesser(k, blocks::rows_in(&list[..]));
+    let mut at: usize = 0;
+    for i in 0..n {
+        let d = k - i;
+        blocks::put(list, i, draw_at(basis, at, d));
+        at = at + d + d;
+    }
+}
+
+// The space of all rows with k columns: the unit rows, and for their Gram matrix the core.
+fn begin(basis: &mut [u64], gram: &mut [u64], core: &[u64], k: usize)
+    requires { ⌜ (k ≤ width) × (k ≡ length (coreIn (now core))) × (levels k ≤ length (rowsIn (now basis))) × (levels k ≤ length (rowsIn (now gram))) ⌝ }
+    ensures { λ _. ⌜ (take k (rowsIn (now (basis .exit))) ≡ units k) × (gramOf (coreIn (now (core .entry))) (units k) ≡ take k (rowsIn (now (gram .exit)))) ⌝ }
+{
+    for i in 0..k {
+        blocks::put(basis, i, binar::unit(i));
+        blocks::put(gram, i, binar::low(blocks::row(core, i), k));
+    }
+}
+
+// The search from there, in lent words; a basis that it finds is put over a lent list.
+fn searched(
+    basis: &mut [u64],
+    gram: &mut [u64],
+    core: &[u64],
+    k: usize,
+    budget: u64,
+    list: &mut [u64],
+) -> Ended
+    requires { ⌜ (k ≤ width) × (k ≡ length (coreIn (now core))) × (levels k ≤ length (rowsIn (now basis))) × (levels k ≤ length (rowsIn (now gram))) ⌝ }
+    ensures answered { λ r. ⌜ (let v = budgeted budget (search (form (coreIn (now (core .entry)))) (length (coreIn (now (core .entry)))) (units (length (coreIn (now (core .entry))))) 0) in verdictOf (r .ending) (r .looks) (basisFound v) ≡ v) ⌝ }
+    ensures left { λ r. ⌜ rowsIn (now (list .exit)) ≡ over (basisFound (budgeted budget (search (form (coreIn (now (core .entry)))) (length (coreIn (now (core .entry)))) (units (length (coreIn (now (core .entry))))) 0))) (rowsIn (now (list .entry))) ⌝ }
+{
+    begin(basis, gram, core, k);
+    let o = try_space(basis, gram, k, 0, budget);
+    let e = o.ending;
+    match e {
+        Ending::Found => {
+            collected(&basis[..], k, list);
+            return o;
+        }
+        _ => {
+            return o;
+        }
+    }
+}
+
+fn within_8(core: &[u64], k: usize, budget: u64, list: &mut [u64]) -> Ended
+    requires { ⌜ (k ≤ 8) × (k ≡ length (coreIn (now core))) ⌝ }
+    ensures answered { λ r. ⌜ (let v = budgeted budget (search (form (coreIn (now (core .entry)))) (length (coreIn (now (core .entry)))) (units (length (coreIn (now (core .entry))))) 0) in verdictOf (r .ending) (r .looks) (basisFound v) ≡ v) ⌝ }
+    ensures left { λ r. ⌜ rowsIn (now (list .exit)) ≡ over (basisFound (budgeted budget (search (form (coreIn (now (core .entry)))) (length (coreIn (now (core .entry)))) (units (length (coreIn (now (core .entry))))) 0))) (rowsIn (now (list .entry))) ⌝ }
+{
+    let mut basis = [0u64; 72];
+    let mut gram = [0u64; 72];
+    searched(&mut basis, &mut gram, core, k, budget, list)
+}
+
+fn within_16(core: &[u64], k: usize, budget: u64, list: &mut [u64]) -> Ended
+    requires { ⌜ (k ≤ 16) × (k ≡ length (coreIn (now core))) ⌝ }
+    ensures answered { λ r. ⌜ (let v = budgeted budget (search (form (coreIn (now (core .entry)))) (length (coreIn (now (core .entry)))) (units (length (coreIn (now (core .entry))))) 0) in verdictOf (r .ending) (r .looks) (basisFound v) ≡ v) ⌝ }
+    ensures left { λ r. ⌜ rowsIn (now (list .exit)) ≡ over (basisFound (budgeted budget (search (form (coreIn (now (core .entry)))) (length (coreIn (now (core .entry)))) (units (length (coreIn (now (core .entry))))) 0))) (rowsIn (now (list .entry))) ⌝ }
+{
+    let mut basis = [0u64; 272];
+    let mut gram = [0u64; 272];
+    searched(&mut basis, &mut gram, core, k, budget, list)
+}
+
+fn within_32(core: &[u64], k: usize, budget: u64, list: &mut [u64]) -> Ended
+    requires { ⌜ (k ≤ 32) × (k ≡ length (coreIn (now core))) ⌝ }
+    ensures answered { λ r. ⌜ (let v = budgeted budget (search (form (coreIn (now (core .entry)))) (length (coreIn (now (core .entry)))) (units (length (coreIn (now (core .entry))))) 0) in verdictOf (r .ending) (r .looks) (basisFound v) ≡ v) ⌝ }
+    ensures left { λ r. ⌜ rowsIn (now (list .exit)) ≡ over (basisFound (budgeted budget (search (form (coreIn (now (core .entry)))) (length (coreIn (now (core .entry)))) (units (length (coreIn (now (core .entry))))) 0))) (rowsIn (now (list .entry))) ⌝ }
+{
+    let mut basis = [0u64; 1056];
+    let mut gram = [0u64; 1056];
+    searched(&mut basis, &mut gram, core, k, budget, list)
+}
+
+fn within_64(core: &[u64], k: usize, budget: u64, list: &mut [u64]) -> Ended
+    requires { ⌜ (k ≤ 64) × (k ≡ length (coreIn (now core))) ⌝ }
+    ensures answered { λ r. ⌜ (let v = budgeted budget (search (form (coreIn (now (core .entry)))) (length (coreIn (now (core .entry)))) (units (length (coreIn (now (core .entry))))) 0) in verdictOf (r .ending) (r .looks) (basisFound v) ≡ v) ⌝ }
+    ensures left { λ r. ⌜ rowsIn (now (list .exit)) ≡ over (basisFound (budgeted budget (search (form (coreIn (now (core .entry)))) (length (coreIn (now (core .entry)))) (units (length (coreIn (now (core .entry))))) 0))) (rowsIn (now (list .entry))) ⌝ }
+{
+    let mut basis = [0u64; 4160];
+    let mut gram = [0u64; 4160];
+    searched(&mut basis, &mut gram, core, k, budget, list)
+}
+
+// Looks for a basis that makes the core triangular, and puts what it finds over a lent list. Rows of the core past the columns of a row
+// are left out.
+pub fn congruence_triangularize(core: &[u64], budget: u64, list: &mut [u64]) -> Ended
+    ensures answered { λ r. ⌜ (let v = budgeted budget (search (form (coreIn (now (core .entry)))) (length (coreIn (now (core .entry)))) (units (length (coreIn (now (core .entry))))) 0) in verdictOf (r .ending) (r .looks) (basisFound v) ≡ v) ⌝ }
+    ensures left { λ r. ⌜ rowsIn (now (list .exit)) ≡ over (basisFound (budgeted budget (search (form (coreIn (now (core .entry)))) (length (coreIn (now (core .entry)))) (units (length (coreIn (now (core .entry))))) 0))) (rowsIn (now (list .entry))) ⌝ }
+{
+    let k = blocks::lesser(WIDTH, blocks::rows_in(core));
+    if k <= 8 {
+        return within_8(core, k, budget, list);
+    }
+    if k <= 16 {
+        return within_16(core, k, budget, list);
+    }
+    if k <= 32 {
+        return within_32(core, k, budget, list);
+    }
+    within_64(core, k, budget, list)
+}
