@@ -1,6 +1,7 @@
 pub mod Members
+pub mod Behind
+pub mod Drops
 pub mod Others
 pub mod Simplices
 pub mod Peeling
-pub mod Behind
 pub mod Marked

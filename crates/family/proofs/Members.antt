@@ -4,19 +4,18 @@ use mathlib.Core.Path.{_≡_, refl, sym, ap, ap₂, _∙_}
 use mathlib.Core.Bool.{Bool, true, false, not, Bool·beq}
 use mathlib.Core.List.{List}
 use mathlib.Core.Option.{Option, none, some}
-use Prim.Native.Nat.{ℕ, _<_}
-use lib.ListN.{getD}
+use Prim.Native.Nat.{ℕ, _≤_, _<_}
+use lib.ListN.{length, getD, take, length-take}
+use lib.Seq.{getD-take}
 use native.Mathlib.Omega.{arith}
 use Rattle.binar.specs.declared.Row.{Row}
-use Rattle.binar.specs.Bits.{_⊻_, _⊕_}
+use Rattle.binar.specs.Bits.{_⊻_, _⊕_, dot}
 use Rattle.binar.specs.Rows.{val}
-use Rattle.binar.specs.inner.Blank.{blank}
 use Rattle.blocks.specs.Matrices.{times, matmul}
-use Rattle.blocks.proofs.Products.{times-sum}
+use Rattle.blocks.proofs.Products.{times-sum, matmul-length}
 use Rattle.symplectic.specs.Picks.{mapSome}
-use Rattle.triangular.specs.declared.Space.{Space}
-use Rattle.triangular.specs.Readings.{basisOf, formsOf}
-use Rattle.triangular.proofs.Cores.{taken-get, core-row, basis-rows, form-rows}
+use Rattle.reduction.specs.Residue.{form}
+use Rattle.triangular.proofs.Cores.{core-row, form-dot}
 use Rattle.family.specs.declared.Picked.{Picked}
 use Rattle.family.specs.declared.Picked.the-variants.{Vector, Nothing}
 use Rattle.family.specs.inner.Parts.{besideRow, pickedOf}
@@ -28,18 +27,26 @@ differ true false = refl
 differ false true = refl
 differ false false = refl
 
--- ---- a member and its form row
+-- ---- members and form rows: the first d of two lists
 
-module _ (s : Space) (i : ℕ) (h : i < s .count) where
-  pub member-is : val (getD (s .basis) i blank) ≡ getD (basisOf s) i 0
-  member-is = taken-get (s .count) (s .basis) i h ∙ ap (λ l. getD l i 0) (sym (basis-rows s))
+pub member-is : (d : ℕ) (b : List ℕ) (i : ℕ) → i < d → (y : ℕ) → y ≡ getD b i 0 → y ≡ getD (take d b) i 0
+member-is d b i h y e = e ∙ sym (getD-take d b i 0 h)
 
-  module _ (E : List ℕ) (fit : matmul (basisOf s) E ≡ formsOf s) where
-    pub row-is : val (getD (s .forms) i blank) ≡ times (getD (basisOf s) i 0) E
-    row-is = taken-get (s .count) (s .forms) i h ∙ ap (λ l. getD l i 0) (sym (form-rows s)) ∙ core-row (basisOf s) (formsOf s) E fit i
+module _ (d : ℕ) (b f E : List ℕ) (fit : matmul (take d b) E ≡ take d f) where
+  pub row-is : (i : ℕ) → i < d → (g : ℕ) → g ≡ getD f i 0 → g ≡ times (getD (take d b) i 0) E
+  row-is i h g e = member-is d f i h g e ∙ core-row (take d b) (take d f) E fit i
 
-    pub member-row : val (getD (s .forms) i blank) ≡ times (val (getD (s .basis) i blank)) E
-    member-row = row-is ∙ ap (λ x. times x E) (sym member-is)
+  -- a dot of what is read is the form of two members
+  pub member-form : (i j : ℕ) → i < d → j < d → (g y : ℕ) → g ≡ getD f i 0 → y ≡ getD b j 0 → (t : Bool) → t ≡ dot g y
+      → form E (getD (take d b) i 0) (getD (take d b) j 0) ≡ t
+  member-form i j h k g y g-is y-is t e =
+      form-dot E (getD (take d b) i 0) g (getD (take d b) j 0) (row-is i h g g-is) ∙ ap (dot g) (sym (member-is d b j k y y-is)) ∙ sym e
+
+-- as many form rows as members
+pub fit-length : (d : ℕ) (b f E : List ℕ) → matmul (take d b) E ≡ take d f → d ≤ length b → d ≤ length f
+fit-length d b f E fit h =
+    let size = ap length (sym fit) ∙ matmul-length (take d b) E in
+    omega (arith, length-take d b, length-take d f)
 
 -- ---- what is picked
 

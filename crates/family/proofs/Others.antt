@@ -2,7 +2,7 @@
 -- Assumes nothing.
 use mathlib.Core.Path.{_≡_, sym, ap, ap₂, _∙_}
 use mathlib.Core.Bool.{Bool}
-use mathlib.Core.List.{List, map}
+use mathlib.Core.List.{List}
 use Prim.Native.Nat.{ℕ, suc, _+_, _-_, _≤_, _<_}
 use native.Mathlib.Omega.{arith}
 use lib.ListN.{length, getD, drop, length-drop, length-map}
@@ -16,7 +16,7 @@ use Rattle.linear.proofs.Maps.{map-at}
 use Rattle.reduction.specs.Residue.{form}
 use Rattle.triangular.proofs.Cores.{row-times}
 use Rattle.family.specs.Family.{clearedOfPair}
-use Rattle.family.specs.inner.Parts.{othersOf}
+use Rattle.family.specs.inner.Parts.{othersOf, pairRest}
 
 -- ---- by their places
 
@@ -47,18 +47,14 @@ cleared-row E y f p a b =
 
 -- ---- the remainder of a pair, member by member
 
--- the others, cleared of the first and the j-th
-unfoldable pub pairRest : List ℕ → ℕ → List ℕ → List ℕ
-pairRest E j B = map (clearedOfPair (form E) (getD B 0 0) (getD B j 0)) (othersOf j B)
-
-pub rest-length : (E : List ℕ) (j : ℕ) (B : List ℕ) → 1 ≤ j → j < length B → length (pairRest E j B) ≡ length B - 2
+pub rest-length : (E : ℕ → ℕ → Bool) (j : ℕ) (B : List ℕ) → 1 ≤ j → j < length B → length (pairRest E j B) ≡ length B - 2
 unfolding pairRest
-rest-length E j B p h = length-map (othersOf j B) (clearedOfPair (form E) (getD B 0 0) (getD B j 0)) ∙ others-length j B p h
+rest-length E j B p h = length-map (othersOf j B) (clearedOfPair E (getD B 0 0) (getD B j 0)) ∙ others-length j B p h
 
 module _ (E : List ℕ) (j : ℕ) (B : List ℕ) (y f p : ℕ) (a b : Bool) (v : ℕ) (new : v ≡ y ⊕ select 0 a f ⊕ select 0 b p) where
   -- the n-th of them stood at i
   pub rest-member : (n i : ℕ) → n < length (othersOf j B) → getD (othersOf j B) n 0 ≡ getD B i 0 → y ≡ getD B i 0 → f ≡ getD B 0 0 → p ≡ getD B j 0
-      → form E (getD B j 0) (getD B i 0) ≡ a → form E (getD B 0 0) (getD B i 0) ≡ b → v ≡ getD (pairRest E j B) n 0
+      → form E (getD B j 0) (getD B i 0) ≡ a → form E (getD B 0 0) (getD B i 0) ≡ b → v ≡ getD (pairRest (form E) j B) n 0
   unfolding pairRest
   rest-member n i h at y-is f-is p-is a-is b-is =
       let x = getD B i 0 in
@@ -69,7 +65,7 @@ module _ (E : List ℕ) (j : ℕ) (B : List ℕ) (y f p : ℕ) (a b : Bool) (v :
       ∙ sym (map-get (clearedOfPair (form E) (getD B 0 0) (getD B j 0)) (othersOf j B) n 0 0 h)
 
   pub rest-row : (n g f-row p-row w : ℕ) → g ≡ times y E → f-row ≡ times f E → p-row ≡ times p E → w ≡ g ⊕ select 0 a f-row ⊕ select 0 b p-row
-      → v ≡ getD (pairRest E j B) n 0 → w ≡ getD (matmul (pairRest E j B) E) n 0
+      → v ≡ getD (pairRest (form E) j B) n 0 → w ≡ getD (matmul (pairRest (form E) j B) E) n 0
   rest-row n g f-row p-row w g-is f-is p-is w-is v-is =
       w-is ∙ ap (λ s. s ⊕ select 0 a f-row ⊕ select 0 b p-row) g-is ∙ ap₂ (λ s t. times y E ⊕ select 0 a s ⊕ select 0 b t) f-is p-is
-      ∙ sym (cleared-row E y f p a b) ∙ ap (λ s. times s E) (sym new ∙ v-is) ∙ sym (row-times (pairRest E j B) E n)
+      ∙ sym (cleared-row E y f p a b) ∙ ap (λ s. times s E) (sym new ∙ v-is) ∙ sym (row-times (pairRest (form E) j B) E n)

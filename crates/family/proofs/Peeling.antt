@@ -7,7 +7,7 @@ use mathlib.Core.Option.{Option, none, some}
 use Prim.Native.Nat.{ℕ, zero, suc, _≤_, _<_, zero-le}
 use native.Mathlib.Nat.{not-suc-le-zero}
 use native.Mathlib.Omega.{arith}
-use lib.ListN.{length, length-map}
+use lib.ListN.{length, getD, length-map}
 use lib.Seq.{append-snoc}
 use Rattle.binar.specs.Bits.{select, _⊕_, dot}
 use Rattle.blocks.specs.Matrices.{times}
@@ -15,13 +15,13 @@ use Rattle.symplectic.specs.Picks.{mapSome, pick}
 use Rattle.symplectic.proofs.FirstPicks.{firstOne-end, firstUneven-end, pick-of-uneven}
 use Rattle.reduction.specs.Residue.{form}
 use Rattle.triangular.specs.Spaces.{dropOrKeep, complement}
-use Rattle.triangular.proofs.Complements.{complement-nil, complement-cons}
+use Rattle.triangular.proofs.Complements.{complement-nil, complement-cons, complement-none}
 use Rattle.triangular.proofs.Cores.{form-row}
 use Rattle.family.specs.Family.{anyOf, symplecticSimplex, related, passedOn, peeled, borderedFamily}
 use Rattle.family.specs.declared.Construction.{Construction}
 use Rattle.family.specs.declared.Construction.the-variants.{Made, Stuck}
 use Rattle.family.specs.Readings.{ifMade, marked}
-use Rattle.family.specs.inner.Parts.{peeledBefore}
+use Rattle.family.specs.inner.Parts.{behind, peeledBefore}
 
 -- ---- whether a member is dropped
 
@@ -42,13 +42,6 @@ module _ (f : ℕ → Bool) where
       go : (b : Bool) → f m ≡ b → (anyOf f bs ≡ false → complement f bs ≡ bs) → dropOrKeep b m (map (λ y. y ⊕ select 0 (f y) m) bs) (complement f bs) ≡ m ∷ bs
       go true q ih = let z : true ≡ false = ap (λ t. t || anyOf f bs) (sym q) ∙ e in let n : _≡_ {A = ℕ} 0 1 = cc in absurd (omega arith)
       go false q ih = ap (λ l. m ∷ l) (ih (ap (λ t. t || anyOf f bs) (sym q) ∙ e))
-
-  rest-shorter : (bs : List ℕ) → (length (complement f bs) ≡ length bs → ⊥) → length (complement f bs) < length bs
-  rest-shorter bs n = go (anyOf f bs) refl
-    where
-      go : (b : Bool) → anyOf f bs ≡ b → length (complement f bs) < length bs
-      go true e = omega (arith, any-drops bs e)
-      go false e = absurd (n (ap length (any-keeps bs e)))
 
 -- ---- one turn
 
@@ -128,32 +121,38 @@ module _ (E : ℕ → ℕ → Bool) where
         at zero = refl
         at (suc n) = ap (peeled E bs (borderedFamily E n)) e
 
--- a vector p is picked, with form row f, and `rest` is what is passed on
+-- a vector p is picked, with form row f
 module _ (E : List ℕ) (whole : Option (List (ℕ × Bool))) (vs bs : List ℕ) (l : Left (form E) whole vs bs) (p f : ℕ) (is : pick _⊕_ (form E) bs ≡ some p)
-    (row : f ≡ times p E) (rest : List ℕ) (passed : rest ≡ complement (dot f) bs) where
-  by-form : complement (form E p) bs ≡ rest
-  by-form = ap (λ g. complement g bs) (form-row E p f row) ∙ sym passed
+    (row : f ≡ times p E) where
+  by-form : complement (form E p) bs ≡ complement (dot f) bs
+  by-form = ap (λ g. complement g bs) (form-row E p f row)
 
-  pub turn-stuck : length rest ≡ length bs → none ≡ whole
-  turn-stuck h = family-stuck (form E) whole vs bs l p is (ap length by-form ∙ h)
+  -- f has a dot with no member
+  pub turn-stuck : ((i : ℕ) → i < length bs → dot f (getD bs i 0) ≡ false) → none ≡ whole
+  turn-stuck h = family-stuck (form E) whole vs bs l p is (ap length (by-form ∙ complement-none (dot f) bs h))
 
-  shorter : (length rest ≡ length bs → ⊥) → length (complement (form E p) bs) < length bs
-  shorter n = rest-shorter (form E p) bs (λ e. n (ap length (sym by-form) ∙ e))
-
-  pub turn-shorter : (length rest ≡ length bs → ⊥) → length rest < length bs
-  turn-shorter n = subst (λ r. length r < length bs) by-form (shorter n)
-
-  pub turn-peeled : (length rest ≡ length bs → ⊥) → Left (form E) whole (vs ++ (p ∷ [])) rest
-  turn-peeled n = subst (Left (form E) whole (vs ++ (p ∷ []))) by-form (family-peeled (form E) whole vs bs l p is (shorter n))
+  -- one is dropped
+  pub turn-peeled : length (complement (dot f) bs) < length bs → (next rest : List ℕ) → next ≡ vs ++ (p ∷ []) → rest ≡ complement (dot f) bs → Left (form E) whole next rest
+  turn-peeled h next rest n-is r-is =
+      subst (λ x. Left (form E) whole x rest) (sym n-is) (subst (Left (form E) whole (vs ++ (p ∷ []))) (by-form ∙ sym r-is)
+      (family-peeled (form E) whole vs bs l p is (subst (λ x. length x < length bs) (sym by-form) h)))
 
 -- ---- the end
 
-pub marked-joined : (vs ws : List ℕ) → marked (length vs) (vs ++ ws) ≡ peeledBefore vs (map (λ w. (w, true)) ws)
+marked-joined : (vs ws : List ℕ) → marked (length vs) (vs ++ ws) ≡ peeledBefore vs (map (λ w. (w, true)) ws)
 unfolding marked peeledBefore
 marked-joined [] ws = refl
 marked-joined (v ∷ vs) ws = ap (λ l. (v, false) ∷ l) (marked-joined vs ws)
 
--- what is made of a construction
-pub made-map : {A B : Type 0} (f : A → B) (c : Construction) (a : A) → mapSome f (ifMade c a) ≡ ifMade c (f a)
-made-map f Made a = refl
-made-map f Stuck a = refl
+-- those peeled in front of a simplex, where it was made
+pub joined-made : (c : Construction) (k : ℕ) (rows vs : List ℕ) (w : Option (List ℕ)) → length vs ≡ k → ifMade c rows ≡ mapSome (behind vs) w
+    → ifMade c (marked k rows) ≡ mapSome (peeledBefore vs) (mapSome (map (λ v. (v, true))) w)
+joined-made c k rows vs w size is = sym (made-map c) ∙ ap (mapSome (marked k)) is ∙ go w
+  where
+    made-map : (c : Construction) → mapSome (marked k) (ifMade c rows) ≡ ifMade c (marked k rows)
+    made-map Made = refl
+    made-map Stuck = refl
+
+    go : (w : Option (List ℕ)) → mapSome (marked k) (mapSome (behind vs) w) ≡ mapSome (peeledBefore vs) (mapSome (map (λ v. (v, true))) w)
+    go none = refl
+    go (some ws) = ap some (ap (λ n. marked n (vs ++ ws)) (sym size) ∙ marked-joined vs ws)

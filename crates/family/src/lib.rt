@@ -1,23 +1,26 @@
 // The bordered family of a core: members peeled while one is picked, then the simplex on the alternating rest.
 // In the source: transvection_exact.rs, `bordered_family`, `symplectic_simplex`.
+// The first d rows of `basis` are the members of a space, those of `forms` their form rows: each member times the core.
 use binar::Row;
+use binar::WIDTH;
 use blocks::Block;
-use triangular::Space;
+use blocks::ROOM;
 ghost use mathlib.Core.Path.{_≡_};
 ghost use mathlib.Core.Bool.{true, false};
-ghost use mathlib.Core.List.{List, _∷_, _++_, map};
+ghost use mathlib.Core.List.{List, map};
 ghost use Prim.Native.Nat.{ℕ, _+_, _-_, _≤_, _<_};
-ghost use lib.ListN.{length, getD, drop};
-ghost use Rattle.binar.specs.Bits.{select, _⊕_};
+ghost use lib.ListN.{length, getD, set, take, drop};
+ghost use Rattle.binar.specs.Bits.{select, _⊕_, dot};
 ghost use Rattle.binar.specs.Rows.{width, val};
-ghost use Rattle.blocks.specs.Blocks.{room, rowsOf};
 ghost use Rattle.blocks.specs.Matrices.{matmul, units};
+ghost use Rattle.blocks.specs.Words.{rowsIn, over};
 ghost use Rattle.symplectic.specs.Picks.{mapSome, firstOne, unevenWith, firstUneven, pick as pickOf};
 ghost use Rattle.reduction.specs.Residue.{form};
-ghost use Rattle.triangular.specs.Readings.{basisOf, formsOf, coreOf};
-ghost use Rattle.family.specs.Family.{clearedOfPair, symplecticSimplex, borderedFamily};
-ghost use Rattle.family.specs.Readings.{familyOf};
-ghost use Rattle.family.specs.inner.Parts.{besideRow, pickedOf, othersOf, simplexOf, peeledBefore};
+ghost use Rattle.triangular.specs.Spaces.{complement};
+ghost use Rattle.triangular.specs.Readings.{coreIn};
+ghost use Rattle.family.specs.Family.{symplecticSimplex, borderedFamily};
+ghost use Rattle.family.specs.Readings.{ifMade, familyOf};
+ghost use Rattle.family.specs.inner.Parts.{besideRow, pickedOf, othersOf, pairRest, behind, peeledBefore};
 
 // Whether a construction was made, or stuck where it found no partner or no member to drop.
 pub enum Construction {
@@ -38,21 +41,15 @@ enum Picked {
     Nothing,
 }
 
-struct Simplex {
-    construction: Construction,
-    vectors: Block,
-}
-
 // The first member with form one with itself.
-fn first_one(s: Space) -> Picked
-    requires { ⌜ s .count ≤ width ⌝ }
-    ensures { λ r. ⌜ ((E : List ℕ) → matmul (basisOf s) E ≡ formsOf s
-        → pickedOf r ≡ mapSome (besideRow E) (firstOne _⊕_ (form E) (basisOf s))) ⌝ }
+fn first_one(basis: &[u64], forms: &[u64], d: usize) -> Picked
+    requires { ⌜ d ≤ length (rowsIn (now basis)) ⌝ }
+    ensures { λ r. ⌜ ((E : List ℕ) → matmul (take d (rowsIn (now (basis .entry)))) E ≡ take d (rowsIn (now (forms .entry)))
+        → pickedOf r ≡ mapSome (besideRow E) (firstOne _⊕_ (form E) (take d (rowsIn (now (basis .entry)))))) ⌝ }
 {
-    let k = s.count;
-    for i in 0..k {
-        let y = s.basis[i];
-        let f = s.forms[i];
+    for i in 0..d {
+        let y = blocks::row(basis, i);
+        let f = blocks::row(forms, i);
         if binar::dot(f, y) {
             return Picked::Vector { member: y, row: f };
         }
@@ -61,17 +58,17 @@ fn first_one(s: Space) -> Picked
 }
 
 // The sum of member i and the first behind it for which the two forms differ.
-fn uneven_with(s: Space, i: usize) -> Picked
-    requires { ⌜ (i < s .count) × (s .count ≤ width) ⌝ }
-    ensures { λ r. ⌜ ((E : List ℕ) → matmul (basisOf s) E ≡ formsOf s
-        → pickedOf r ≡ mapSome (besideRow E) (unevenWith _⊕_ (form E) (getD (basisOf s) i 0) (drop (i + 1) (basisOf s)))) ⌝ }
+fn uneven_with(basis: &[u64], forms: &[u64], d: usize, i: usize) -> Picked
+    requires { ⌜ (i < d) × (d ≤ length (rowsIn (now basis))) ⌝ }
+    ensures { λ r. ⌜ ((E : List ℕ) → matmul (take d (rowsIn (now (basis .entry)))) E ≡ take d (rowsIn (now (forms .entry)))
+        → pickedOf r ≡ mapSome (besideRow E) (unevenWith _⊕_ (form E) (getD (take d (rowsIn (now (basis .entry)))) i 0)
+        (drop (i + 1) (take d (rowsIn (now (basis .entry))))))) ⌝ }
 {
-    let k = s.count;
-    let b = s.basis[i];
-    let g = s.forms[i];
-    for j in i + 1..k {
-        let y = s.basis[j];
-        let f = s.forms[j];
+    let b = blocks::row(basis, i);
+    let g = blocks::row(forms, i);
+    for j in i + 1..d {
+        let y = blocks::row(basis, j);
+        let f = blocks::row(forms, j);
         if binar::dot(g, y) != binar::dot(f, b) {
             let member = binar::sum(b, y);
             let row = binar::sum(g, f);
@@ -85,14 +82,13 @@ fn uneven_with(s: Space, i: usize) -> Picked
 }
 
 // The sum of the first two members whose forms differ.
-fn first_uneven(s: Space) -> Picked
-    requires { ⌜ s .count ≤ width ⌝ }
-    ensures { λ r. ⌜ ((E : List ℕ) → matmul (basisOf s) E ≡ formsOf s
-        → pickedOf r ≡ mapSome (besideRow E) (firstUneven _⊕_ (form E) (basisOf s))) ⌝ }
+fn first_uneven(basis: &[u64], forms: &[u64], d: usize) -> Picked
+    requires { ⌜ d ≤ length (rowsIn (now basis)) ⌝ }
+    ensures { λ r. ⌜ ((E : List ℕ) → matmul (take d (rowsIn (now (basis .entry)))) E ≡ take d (rowsIn (now (forms .entry)))
+        → pickedOf r ≡ mapSome (besideRow E) (firstUneven _⊕_ (form E) (take d (rowsIn (now (basis .entry)))))) ⌝ }
 {
-    let k = s.count;
-    for i in 0..k {
-        let p = uneven_with(s, i);
+    for i in 0..d {
+        let p = uneven_with(basis, forms, d, i);
         match p {
             Picked::Vector { .. } => {
                 return p;
@@ -104,189 +100,229 @@ fn first_uneven(s: Space) -> Picked
 }
 
 // The first member with form one with itself, else the sum of the first two members whose forms differ.
-fn pick(s: Space) -> Picked
-    requires { ⌜ s .count ≤ width ⌝ }
-    ensures { λ r. ⌜ ((E : List ℕ) → matmul (basisOf s) E ≡ formsOf s
-        → pickedOf r ≡ mapSome (besideRow E) (pickOf _⊕_ (form E) (basisOf s))) ⌝ }
+fn pick(basis: &[u64], forms: &[u64], d: usize) -> Picked
+    requires { ⌜ d ≤ length (rowsIn (now basis)) ⌝ }
+    ensures { λ r. ⌜ ((E : List ℕ) → matmul (take d (rowsIn (now (basis .entry)))) E ≡ take d (rowsIn (now (forms .entry)))
+        → pickedOf r ≡ mapSome (besideRow E) (pickOf _⊕_ (form E) (take d (rowsIn (now (basis .entry)))))) ⌝ }
 {
-    let p = first_one(s);
+    let p = first_one(basis, forms, d);
     match p {
         Picked::Vector { .. } => p,
-        Picked::Nothing => first_uneven(s),
+        Picked::Nothing => first_uneven(basis, forms, d),
     }
 }
 
-// The first member behind the first that has form one behind it; the count where there is none.
-fn partner(s: Space) -> usize
-    requires { ⌜ (0 < s .count) × (s .count ≤ width) ⌝ }
-    ensures { λ r. ⌜ (1 ≤ r) × (r ≤ s .count) × ((E : List ℕ) → matmul (basisOf s) E ≡ formsOf s
-        → ((i : ℕ) → 1 ≤ i → i < r → form E (getD (basisOf s) 0 0) (getD (basisOf s) i 0) ≡ false)
-        × (r < s .count → form E (getD (basisOf s) 0 0) (getD (basisOf s) r 0) ≡ true)) ⌝ }
+// The first member from n on that f has a dot with; d where there is none.
+fn first_dot(basis: &[u64], n: usize, d: usize, f: Row) -> usize
+    requires { ⌜ n ≤ d ⌝ }
+    ensures { λ r. ⌜ (n ≤ r) × (r ≤ d) × ((i : ℕ) → i < r → n ≤ i → dot (val f) (getD (rowsIn (now (basis .entry))) i 0) ≡ false)
+        × (r < d → dot (val f) (getD (rowsIn (now (basis .entry))) r 0) ≡ true) ⌝ }
 {
-    let k = s.count;
-    let f = s.forms[0];
-    for i in 1..k {
-        if binar::dot(f, s.basis[i]) {
+    for i in n..d {
+        if binar::dot(f, blocks::row(basis, i)) {
             return i;
         }
     }
-    k
+    d
+}
+
+// y, and m with it where the bit is set.
+fn added(y: Row, m: Row, hit: bool) -> Row
+    ensures { λ r. ⌜ val r ≡ val y ⊕ select 0 hit (val m) ⌝ }
+{
+    if hit { binar::sum(y, m) } else { y }
+}
+
+// Member j, the first that f has a dot with, is dropped and added to each later one that f has a dot with. Those behind it move up by one.
+fn drop_member(basis: &mut [u64], forms: &mut [u64], d: usize, f: Row, j: usize)
+    requires { ⌜ (j < d) × (d ≤ width) × (d ≤ length (rowsIn (now basis))) × ((i : ℕ) → i < j → dot (val f) (getD (rowsIn (now basis)) i 0) ≡ false)
+        × (dot (val f) (getD (rowsIn (now basis)) j 0) ≡ true) ⌝ }
+    ensures { λ _. ⌜ (rowsIn (now (basis .exit)) ≡ over (complement (dot (val f)) (take d (rowsIn (now (basis .entry))))) (rowsIn (now (basis .entry))))
+        × ((E : List ℕ) → matmul (take d (rowsIn (now (basis .entry)))) E ≡ take d (rowsIn (now (forms .entry)))
+        → rowsIn (now (forms .exit)) ≡ over (matmul (complement (dot (val f)) (take d (rowsIn (now (basis .entry))))) E) (rowsIn (now (forms .entry)))) ⌝ }
+{
+    let m = blocks::row(basis, j);
+    let mf = blocks::row(forms, j);
+    let last = d - 1;
+    for n in j..last {
+        let y = blocks::row(basis, n + 1);
+        let g = blocks::row(forms, n + 1);
+        let hit = binar::dot(f, y);
+        blocks::put(basis, n, added(y, m, hit));
+        blocks::put(forms, n, added(g, mf, hit));
+    }
 }
 
 // y, and f and p with it where their bits are set.
 fn cleared_of_pair(y: Row, f: Row, a: bool, p: Row, b: bool) -> Row
     ensures { λ r. ⌜ val r ≡ val y ⊕ select 0 a (val f) ⊕ select 0 b (val p) ⌝ }
 {
-    if a {
-        let z = binar::sum(y, f);
-        if b {
-            return binar::sum(z, p);
-        }
-        return z;
-    }
-    if b {
-        return binar::sum(y, p);
-    }
-    y
+    added(added(y, f, a), p, b)
 }
 
 // Where the n-th member that is neither the first nor the j-th stands.
 fn index_past_pair(n: usize, j: usize) -> usize
     requires { ⌜ n + 2 < width ⌝ }
-    ensures { λ r. ⌜ (r ≤ n + 2) × ((B : List ℕ) → 1 ≤ j → j < length B → getD (othersOf j B) n 0 ≡ getD B r 0) ⌝ }
+    ensures { λ r. ⌜ (n < r) × (r ≤ n + 2) × ((B : List ℕ) → 1 ≤ j → j < length B → getD (othersOf j B) n 0 ≡ getD B r 0) ⌝ }
 {
     let i = n + 1;
     if i < j { i } else { i + 1 }
 }
 
-// The space of the members that are neither the first nor its partner j, each cleared of these two.
-fn pair_rest(s: Space, j: usize) -> Space
-    requires { ⌜ (1 ≤ j) × (j < s .count) × (s .count ≤ width) ⌝ }
-    ensures { λ r. ⌜ (r .count ≡ s .count - 2) × ((E : List ℕ) → matmul (basisOf s) E ≡ formsOf s
-        → (basisOf r ≡ map (clearedOfPair (form E) (getD (basisOf s) 0 0) (getD (basisOf s) j 0)) (othersOf j (basisOf s))) × (matmul (basisOf r) E ≡ formsOf r)) ⌝ }
+// Puts member i, cleared of the pair f and p, at n, and its form row with it.
+fn put_cleared(
+    basis: &mut [u64],
+    forms: &mut [u64],
+    n: usize,
+    i: usize,
+    f: Row,
+    ff: Row,
+    p: Row,
+    pf: Row,
+)
+    ensures { λ _. ⌜ (rowsIn (now (basis .exit)) ≡ set (rowsIn (now (basis .entry))) n (getD (rowsIn (now (basis .entry))) i 0
+        ⊕ select 0 (dot (val pf) (getD (rowsIn (now (basis .entry))) i 0)) (val f) ⊕ select 0 (dot (val ff) (getD (rowsIn (now (basis .entry))) i 0)) (val p)))
+        × (rowsIn (now (forms .exit)) ≡ set (rowsIn (now (forms .entry))) n (getD (rowsIn (now (forms .entry))) i 0
+        ⊕ select 0 (dot (val pf) (getD (rowsIn (now (basis .entry))) i 0)) (val ff) ⊕ select 0 (dot (val ff) (getD (rowsIn (now (basis .entry))) i 0)) (val pf))) ⌝ }
 {
-    let f = s.basis[0];
-    let ff = s.forms[0];
-    let p = s.basis[j];
-    let pf = s.forms[j];
-    let k = s.count - 2;
-    let mut t = s;
+    let y = blocks::row(basis, i);
+    let g = blocks::row(forms, i);
+    let a = binar::dot(pf, y);
+    let b = binar::dot(ff, y);
+    blocks::put(basis, n, cleared_of_pair(y, f, a, p, b));
+    blocks::put(forms, n, cleared_of_pair(g, ff, a, pf, b));
+}
+
+// The members that are neither the first nor its partner j are cleared of these two, and move to the start.
+fn pair_rest(basis: &mut [u64], forms: &mut [u64], d: usize, j: usize)
+    requires { ⌜ (1 ≤ j) × (j < d) × (d ≤ width) × (d ≤ length (rowsIn (now basis))) ⌝ }
+    ensures { λ _. ⌜ (length (rowsIn (now (basis .exit))) ≡ length (rowsIn (now (basis .entry))))
+        × ((E : List ℕ) → matmul (take d (rowsIn (now (basis .entry)))) E ≡ take d (rowsIn (now (forms .entry)))
+        → (take (d - 2) (rowsIn (now (basis .exit))) ≡ pairRest (form E) j (take d (rowsIn (now (basis .entry)))))
+        × (matmul (take (d - 2) (rowsIn (now (basis .exit)))) E ≡ take (d - 2) (rowsIn (now (forms .exit))))) ⌝ }
+{
+    let f = blocks::row(basis, 0);
+    let ff = blocks::row(forms, 0);
+    let p = blocks::row(basis, j);
+    let pf = blocks::row(forms, j);
+    let k = d - 2;
     for n in 0..k {
         let i = index_past_pair(n, j);
-        let y = s.basis[i];
-        let g = s.forms[i];
-        let a = binar::dot(pf, y);
-        let b = binar::dot(ff, y);
-        t.basis[n] = cleared_of_pair(y, f, a, p, b);
-        t.forms[n] = cleared_of_pair(g, ff, a, pf, b);
-    }
-    t.count = k;
-    t
-}
-
-// The vectors p and f + p, and f added to each of a remainder's simplex.
-fn extended(f: Row, p: Row, b: Block) -> Block
-    requires { ⌜ length (rowsOf b) + 2 ≤ room ⌝ }
-    ensures { λ r. ⌜ rowsOf r ≡ val p ∷ (val f ⊕ val p) ∷ map (λ (v : ℕ). v ⊕ val f) (rowsOf b) ⌝ }
-{
-    let last = blocks::length_of(b) + 2;
-    let s = binar::sum(f, p);
-    let mut n = blocks::empty();
-    n.rows[0] = p;
-    n.rows[1] = s;
-    for i in 2..last {
-        let v = binar::sum(b.rows[i - 2], f);
-        n.rows[i] = v;
-    }
-    n.count = last;
-    n
-}
-
-// The simplex of a space: that of a pair's remainder, extended by the pair.
-fn symplectic_simplex(s: Space) -> Simplex
-    requires { ⌜ s .count ≤ width ⌝ }
-    ensures { λ r. ⌜ (length (rowsOf (r .vectors)) ≤ s .count + 1) × ((E : List ℕ) (d : ℕ) → s .count ≤ d → matmul (basisOf s) E ≡ formsOf s
-        → simplexOf r ≡ symplecticSimplex (form E) d (basisOf s)) ⌝ }
-{
-    let k = s.count;
-    if k == 0 {
-        return Simplex {
-            construction: Construction::Made,
-            vectors: blocks::push(blocks::empty(), binar::zero()),
-        };
-    }
-    let j = partner(s);
-    if j == k {
-        return Simplex {
-            construction: Construction::Stuck,
-            vectors: blocks::empty(),
-        };
-    }
-    let o = symplectic_simplex(pair_rest(s, j));
-    let construction = o.construction;
-    match construction {
-        Construction::Made => Simplex {
-            construction: Construction::Made,
-            vectors: extended(s.basis[0], s.basis[j], o.vectors),
-        },
-        Construction::Stuck => o,
+        put_cleared(basis, forms, n, i, f, ff, p, pf);
     }
 }
 
-// The rows of b behind those of a.
-fn appended(a: Block, b: Block) -> Block
-    requires { ⌜ length (rowsOf a) + length (rowsOf b) ≤ room ⌝ }
-    ensures { λ r. ⌜ rowsOf r ≡ rowsOf a ++ rowsOf b ⌝ }
+// Puts the vectors p and f + p at n and behind it, each with s added.
+fn put_pair(list: &mut [u64], n: usize, f: Row, p: Row, s: Row)
+    requires { ⌜ n < width ⌝ }
+    ensures { λ _. ⌜ rowsIn (now (list .exit)) ≡ set (set (rowsIn (now (list .entry))) n (val p ⊕ val s)) (n + 1) ((val f ⊕ val p) ⊕ val s) ⌝ }
 {
-    let m = blocks::length_of(a);
-    let last = m + blocks::length_of(b);
-    let mut n = a;
-    for i in m..last {
-        let v = b.rows[i - m];
-        n.rows[i] = v;
-    }
-    n.count = last;
-    n
+    blocks::put(list, n, binar::sum(p, s));
+    blocks::put(list, n + 1, binar::sum(binar::sum(f, p), s));
 }
 
-// The peeled vectors, and behind them a simplex, which is in the relation.
-fn joined(peeled: Block, o: Simplex) -> Family
-    requires { ⌜ length (rowsOf peeled) + length (rowsOf (o .vectors)) ≤ room ⌝ }
-    ensures { λ r. ⌜ familyOf r ≡ mapSome (peeledBefore (rowsOf peeled)) (mapSome (map (λ (v : ℕ). (v, true))) (simplexOf o)) ⌝ }
+// Puts the simplex of a space behind the first rows of a list, pair by pair; s, the sum of the first members so far, is added to each vector.
+fn symplectic_simplex(
+    basis: &mut [u64],
+    forms: &mut [u64],
+    k: usize,
+    list: &mut [u64],
+    front: usize,
+) -> Construction
+    requires { ⌜ (front + k ≤ width) × (k ≤ length (rowsIn (now basis))) × (front + k < length (rowsIn (now list))) ⌝ }
+    ensures { λ r. ⌜ ((E : List ℕ) → matmul (take k (rowsIn (now (basis .entry)))) E ≡ take k (rowsIn (now (forms .entry)))
+        → ifMade r (take (front + k + 1) (rowsIn (now (list .exit))))
+        ≡ mapSome (behind (take front (rowsIn (now (list .entry))))) (symplecticSimplex (form E) k (take k (rowsIn (now (basis .entry)))))) ⌝ }
 {
-    let construction = o.construction;
-    let k = blocks::length_of(peeled);
+    let mut d = k;
+    let mut n = front;
+    let mut s = binar::zero();
+    while 0 < d {
+        let f = blocks::row(basis, 0);
+        let j = first_dot(basis, 1, d, blocks::row(forms, 0));
+        if j == d {
+            return Construction::Stuck;
+        }
+        let p = blocks::row(basis, j);
+        put_pair(list, n, f, p, s);
+        s = binar::sum(f, s);
+        pair_rest(basis, forms, d, j);
+        d -= 2;
+        n += 2;
+    }
+    blocks::put(list, n, s);
+    Construction::Made
+}
+
+// The vectors peeled, which a list begins with, and behind them the simplex of the space, which is in the relation.
+fn joined(basis: &mut [u64], forms: &mut [u64], d: usize, list: &mut [u64], peeled: usize) -> Family
+    requires { ⌜ (peeled + d ≤ width) × (d ≤ length (rowsIn (now basis))) × (peeled + d < length (rowsIn (now list))) ⌝ }
+    ensures { λ r. ⌜ ((E : List ℕ) → matmul (take d (rowsIn (now (basis .entry)))) E ≡ take d (rowsIn (now (forms .entry)))
+        → familyOf r ≡ mapSome (peeledBefore (take peeled (rowsIn (now (list .entry))))) (mapSome (map (λ (v : ℕ). (v, true)))
+        (symplecticSimplex (form E) d (take d (rowsIn (now (basis .entry))))))) ⌝ }
+{
+    let construction = symplectic_simplex(basis, forms, d, list, peeled);
+    let end = blocks::start(list, peeled + d + 1);
+    // Rows with all columns: two for each qubit.
     Family {
         construction: construction,
-        vectors: appended(peeled, o.vectors),
-        peeled: k,
+        vectors: blocks::from_words((WIDTH / 2) as u64, &list[..end]),
+        peeled: peeled,
     }
 }
 
-// Peels while a vector is picked and a member is dropped for it. Of a longer core the first binar::WIDTH rows are taken.
-pub fn bordered_family(core: Block) -> Family
-    ensures { λ r. ⌜ familyOf r ≡ borderedFamily (form (coreOf core)) (length (coreOf core)) (units (length (coreOf core))) ⌝ }
+// Peels while a vector is picked and a member is dropped for it.
+fn peel(basis: &mut [u64], forms: &mut [u64], k: usize, list: &mut [u64]) -> Family
+    requires { ⌜ (k ≤ width) × (k ≤ length (rowsIn (now basis))) × (k < length (rowsIn (now list))) ⌝ }
+    ensures { λ r. ⌜ ((E : List ℕ) → matmul (take k (rowsIn (now (basis .entry)))) E ≡ take k (rowsIn (now (forms .entry)))
+        → familyOf r ≡ borderedFamily (form E) k (take k (rowsIn (now (basis .entry))))) ⌝ }
 {
-    let mut t = triangular::whole(core);
-    let mut peeled = blocks::empty();
+    let mut d = k;
+    let mut peeled: usize = 0;
     loop {
-        let p = pick(t);
+        let p = pick(basis, forms, d);
         match p {
             Picked::Nothing => {
-                return joined(peeled, symplectic_simplex(t));
+                return joined(basis, forms, d, list, peeled);
             }
             Picked::Vector { member, row } => {
-                let rest = triangular::right_orthogonal_complement(t, row);
-                if rest.count == t.count {
+                let j = first_dot(basis, 0, d, row);
+                if j == d {
                     return Family {
                         construction: Construction::Stuck,
                         vectors: blocks::empty(),
                         peeled: 0,
                     };
                 }
-                peeled = blocks::push(peeled, member);
-                t = rest;
+                drop_member(basis, forms, d, row, j);
+                blocks::put(list, peeled, member);
+                peeled += 1;
+                d -= 1;
             }
         }
     }
+}
+
+// Puts the unit rows, d of them, and beside them the rows of the core, which are their form rows.
+fn put_whole(core: &[u64], d: usize, basis: &mut [u64], forms: &mut [u64])
+    requires { ⌜ (d ≤ width) × (d ≤ length (rowsIn (now core))) × (d ≤ length (rowsIn (now basis))) × (d ≤ length (rowsIn (now forms))) ⌝ }
+    ensures { λ _. ⌜ (rowsIn (now (basis .exit)) ≡ over (units d) (rowsIn (now (basis .entry))))
+        × (rowsIn (now (forms .exit)) ≡ over (take d (rowsIn (now (core .entry)))) (rowsIn (now (forms .entry)))) ⌝ }
+{
+    for i in 0..d {
+        blocks::put(basis, i, binar::unit(i));
+        blocks::put(forms, i, blocks::row(core, i));
+    }
+}
+
+// Peels while a vector is picked and a member is dropped for it. Of a longer core the first binar::WIDTH rows are taken.
+pub fn bordered_family(core: &[u64]) -> Family
+    ensures { λ r. ⌜ familyOf r ≡ borderedFamily (form (coreIn (now (core .entry)))) (length (coreIn (now (core .entry)))) (units (length (coreIn (now (core .entry))))) ⌝ }
+{
+    let d = blocks::lesser(WIDTH, blocks::rows_in(core));
+    let mut basis = [0u64; WIDTH];
+    let mut forms = [0u64; WIDTH];
+    let mut list = [0u64; ROOM];
+    put_whole(core, d, &mut basis, &mut forms);
+    peel(&mut basis, &mut forms, d, &mut list)
 }

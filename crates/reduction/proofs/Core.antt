@@ -4,6 +4,7 @@ use mathlib.Core.Path.{_≡_, refl, sym, ap, ap₂, _∙_, subst}
 use mathlib.Core.List.{List, [], _∷_, _++_, map, map-map, map-append}
 use Prim.Native.Nat.{ℕ, _+_, _*_, _/_, _%_, _^_, _≤_, _<_}
 use native.Mathlib.Nat.{suc-ne-zero}
+use native.Mathlib.Omega.{arith}
 use lib.ListN.{length, length-map, take, drop}
 use lib.Seq.{take-at, drop-at}
 use Rattle.binar.specs.Bits.{bit, dot, _⊕_}
@@ -28,7 +29,7 @@ use Rattle.reduction.specs.Residue.{residue, reduction, basis, transform
 use Rattle.reduction.specs.inner.Plain.{reduced}
 use Rattle.reduction.proofs.Echelon.{Rref}
 use Rattle.reduction.proofs.Reduced.{reduced-indep, reduced-lt, reduced-out, reduced-unique}
-use Rattle.reduction.proofs.Transform.{basis-row-is, basis-transform-lt, basis-reduced, above-rref, rank-plain, rank-width}
+use Rattle.reduction.proofs.Transform.{basis-row-is, basis-transform-lt, basis-reduced, above-rref, rank-plain, rank-length, rank-width}
 use Rattle.reduction.proofs.Forms.{form-transposed, transposed-length}
 
 -- ---- of any action
@@ -107,6 +108,13 @@ module _ (n : ℕ) (F : List ℕ) (size : length F ≡ n + n) where
 
   pub residue-length : length (residue n F) ≡ n + n
   residue-length = ap length residue-is ∙ length-map (units (n + n)) (λ u. added n F (swapHalves n u)) ∙ units-length (n + n)
+
+  -- no more rows than the action has
+  pub basis-within : length (basis n F) ≤ n + n
+  basis-within = omega (arith, basis-rank n F, rank-length (n + n) (residue n F), residue-length)
+
+  pub core-within : length (core n F) ≤ n + n
+  core-within = omega (arith, core-length n F, basis-within)
 
   pub residue-times : (u : ℕ) → times u (residue n F) ≡ added n F (swapHalves n u)
   residue-times u =

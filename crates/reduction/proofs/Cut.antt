@@ -11,7 +11,7 @@ use Rattle.binar.proofs.Widths.{kept-sum, kept-whole}
 use Rattle.blocks.specs.Matrices.{units}
 use Rattle.symplectic.specs.Picks.{addBoth}
 use Rattle.reduction.specs.Columns.{Echelon, unreduced, rows, columns, rowReduceWithTransform, rank}
-use Rattle.reduction.specs.inner.Sweeps.{halves}
+use Rattle.reduction.specs.inner.Sweeps.{halves, ReducedIn}
 use Rattle.reduction.proofs.Columns.{mapRows, columns-map}
 use Rattle.reduction.proofs.Transform.{up-rank}
 use Rattle.reduction.proofs.TwoLists.{zip-mapped}
@@ -44,14 +44,18 @@ module _ (m : ℕ) (M : List ℕ) where
 
   -- the end
   module _ (p : ℕ) (ps R T : List ℕ) (e : length R ≡ length T) (is : halves p ps (zip R T) ≡ mapRows cut all) where
-    pub rows-end : R ≡ map (λ a. a .0) (rows all)
+    rows-end : R ≡ map (λ a. a .0) (rows all)
     rows-end = rows-of p ps R T (mapRows cut all) e is ∙ ap (map (λ a. a .0)) cut-rows ∙ map-map (λ a. a .0) cut (rows all)
 
-    pub transform-end : T ≡ map (λ a. a .1 % rowBound) (rows all)
+    transform-end : T ≡ map (λ a. a .1 % rowBound) (rows all)
     transform-end = transform-of p ps R T (mapRows cut all) e is ∙ ap (map (λ a. a .1)) cut-rows ∙ map-map (λ a. a .1) cut (rows all)
 
-    pub pivots-end : ps ≡ all .pivots
+    pivots-end : ps ≡ all .pivots
     pivots-end = ap (λ h. h .pivots) is
 
-    pub rank-end : p ≤ length R → p ≡ rank m M
+    rank-end : p ≤ length R → p ≡ rank m M
     rank-end h = rank-of p ps R T (mapRows cut all) e is h ∙ length-map (all .up) cut ∙ up-rank m M
+
+    -- all of it
+    pub reduced-in : p ≤ length R → ReducedIn m M p R T ps
+    reduced-in h = (rank-end h, rows-end, transform-end, pivots-end)

@@ -11,11 +11,7 @@ use lib.ListN.{length, take, drop, getD, set, length-set}
 use lib.Seq.{take-set-le}
 use Rattle.blocks.proofs.Firsts.{First, first-later, first-inner}
 use Rattle.reduction.specs.Columns.{unpulled, pulled, putIf, put, pullIf, pull, Echelon, clear, columnBy, column, columns}
-use Rattle.reduction.specs.inner.Sweeps.{halves}
-
--- the rows p and j exchanged
-abbrev pub swapped : {A : Type 0} → A → ℕ → ℕ → List A → List A
-swapped d p j l = set (set l p (getD l j d)) j (getD l p d)
+use Rattle.reduction.specs.inner.Sweeps.{halves, swapped, others}
 
 pub swapped-length : {A : Type 0} (d : A) (p j : ℕ) (l : List A) → length (swapped d p j l) ≡ length l
 swapped-length d p j l = length-set (set l p (getD l j d)) j (getD l p d) ∙ length-set l p (getD l j d)
@@ -55,12 +51,6 @@ module _ {A : Type 0} (has : A → Bool) (d : A) where
   pull-none (suc p) (t ∷ ts) f = pull-none p ts (λ i a l. f (suc i) (suc-le-suc a) (suc-le-suc l))
 
 -- ---- a column
-
--- every row but row p changed
-unfoldable pub others : {A : Type 0} → (A → A) → ℕ → List A → List A
-others f p [] = []
-others f zero (y ∷ ys) = y ∷ map f ys
-others f (suc p) (y ∷ ys) = f y ∷ others f p ys
 
 module _ {A : Type 0} (f : A → A) where
   others-take : (d : A) (p : ℕ) (l : List A) → p < length l → take (suc p) (others f p l) ≡ map f (take p l) ++ (getD l p d ∷ [])
@@ -103,7 +93,7 @@ module _ {A : Type 0} (o : A) (add : A → A → A) (d : A) where
 -- ---- the columns from c on, of m
 
 module _ {A : Type 0} (o : A) (add : A → A → A) (has : ℕ → A → Bool) where
-  pub columns-next : (m c : ℕ) (h : Echelon A) → c < m → columns o add has (m - c) c h ≡ columns o add has (m - (c + 1)) (c + 1) (column o add c (has c) h)
+  columns-next : (m c : ℕ) (h : Echelon A) → c < m → columns o add has (m - c) c h ≡ columns o add has (m - (c + 1)) (c + 1) (column o add c (has c) h)
   unfolding columns
   columns-next m c h l =
       let e : m - c ≡ suc (m - (c + 1)) = omega arith in
@@ -112,3 +102,8 @@ module _ {A : Type 0} (o : A) (add : A → A → A) (has : ℕ → A → Bool) w
   pub columns-done : (m c : ℕ) (h : Echelon A) → m ≤ c → columns o add has (m - c) c h ≡ h
   unfolding columns
   columns-done m c h l = let e : m - c ≡ 0 = omega arith in ap (λ k. columns o add has k c h) e
+
+  -- one column less is left
+  pub columns-step : (m c : ℕ) (h g all : Echelon A) → c < m → columns o add has (m - c) c h ≡ all → g ≡ column o add c (has c) h
+      → columns o add has (m - (c + 1)) (c + 1) g ≡ all
+  columns-step m c h g all l e d = ap (columns o add has (m - (c + 1)) (c + 1)) d ∙ sym (columns-next m c h l) ∙ e

@@ -2,12 +2,13 @@
 -- Assumes nothing.
 use mathlib.Core.Path.{_≡_, refl, sym, ap, ap₂, _∙_}
 use mathlib.Core.List.{List, [], _∷_, map}
-use Prim.Native.Nat.{ℕ, _*_, _+_}
-use lib.ListN.{length, length-map}
+use Prim.Native.Nat.{ℕ, _*_, _+_, _<_}
+use lib.ListN.{length, getD, length-map}
 use Rattle.binar.specs.Bits.{_⊻_, _⊕_, digit, dot}
 use Rattle.binar.proofs.Dots.{dot-sum, sum-dot}
 use Rattle.blocks.specs.Matrices.{times, dots}
 use Rattle.blocks.proofs.Products.{times-sum, dots-nil, dots-cons, dot-times}
+use Rattle.blocks.proofs.Values.{map-get}
 use Rattle.linear.specs.Maps.{Form}
 use Rattle.linear.proofs.Instances.{𝕎}
 use Rattle.reduction.specs.Residue.{timesTransposed, form}
@@ -40,3 +41,7 @@ form-transposed B R p q = dot-times (map (dots R) B) p q ∙ ap (dot p) (dots-tr
 pub transposed-length : (B R : List ℕ) → length (timesTransposed B R) ≡ length B
 unfolding timesTransposed
 transposed-length B R = length-map B (dots R)
+
+pub transposed-at : (B R : List ℕ) (i : ℕ) → i < length B → getD (timesTransposed B R) i 0 ≡ dots R (getD B i 0)
+unfolding timesTransposed
+transposed-at B R i h = map-get (dots R) B i 0 0 h

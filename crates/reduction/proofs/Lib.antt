@@ -7,9 +7,9 @@ pub mod Pivots
 pub mod Forms
 pub mod Core
 pub mod Flat
-pub mod Sweep
 pub mod TwoLists
+pub mod Swept
 pub mod Loops
+pub mod Words
 pub mod Cut
 pub mod Parts
-pub mod Crossed

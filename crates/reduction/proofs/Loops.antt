@@ -1,29 +1,23 @@
--- One turn of a loop, and its end: the search of a column's first row, the exchange and the sweep, the reduction's two lists, dots and products with a transposed matrix.
+-- One turn of a loop, and its end: the search of a column's first row, rows put one by one, the reduction's two lists, dots.
 -- Assumes nothing.
 use mathlib.Core.Path.{_≡_, refl, sym, ap, ap₂, _∙_, subst}
 use mathlib.Core.Bool.{Bool, true, false}
-use mathlib.Core.List.{List, [], _∷_, _++_, map, zip}
+use mathlib.Core.List.{List, [], _∷_, _++_, map, zip, append-nil}
 use mathlib.Core.Logic.{⊎-elim}
 use Prim.Native.Nat.{ℕ, suc, _+_, _*_, _^_, _≤_, _<_}
 use native.Mathlib.Omega.{arith}
 use native.Mathlib.Nat.{pow-suc, eq-or-lt-of-le}
 use native.Mathlib.Numerals.{add-one}
-use lib.ListN.{length, take, getD, take-append-drop}
+use lib.ListN.{length, take, drop, getD, take-append-drop, drop-of-length-le}
 use lib.Seq.{take-all, take-length, take-suc, length-take-le}
-use Rattle.binar.specs.Bits.{select, digit, bit, dot, _⊕_}
+use Rattle.binar.specs.Bits.{select, digit, dot, _⊕_}
 use Rattle.binar.proofs.Digits.{digit-lt}
 use Rattle.binar.proofs.Sums.{zero-sum, sum-zero, sum-parts}
 use Rattle.blocks.specs.Matrices.{dots}
-use Rattle.blocks.specs.inner.Lists.{exchanged}
 use Rattle.blocks.proofs.Products.{dots-nil, dots-cons}
-use Rattle.blocks.proofs.Values.{exchanged-in}
-use Rattle.blocks.proofs.Firsts.{First}
-use Rattle.symplectic.specs.Picks.{addBoth}
-use Rattle.reduction.specs.Columns.{Echelon, column}
-use Rattle.reduction.specs.inner.Sweeps.{halves, swept}
-use Rattle.reduction.proofs.Flat.{swapped, swapped-length}
-use Rattle.reduction.proofs.Sweep.{swept-length}
-use Rattle.reduction.proofs.TwoLists.{zip-length, above-left, above-right, both-at}
+use Rattle.reduction.specs.Columns.{Echelon}
+use Rattle.reduction.specs.inner.Sweeps.{halves}
+use Rattle.reduction.proofs.TwoLists.{zip-length, above-left, above-right}
 
 -- ---- the search
 
@@ -31,46 +25,11 @@ use Rattle.reduction.proofs.TwoLists.{zip-length, above-left, above-rig
 pub none-more : (has : ℕ → Bool) (p i : ℕ) → ((x : ℕ) → p ≤ x → x < i → has x ≡ false) → has i ≡ false → (x : ℕ) → p ≤ x → x < i + 1 → has x ≡ false
 none-more has p i f e x a l = ⊎-elim (λ q. ap has q ∙ e) (λ q. f x a q) (eq-or-lt-of-le (omega arith))
 
--- ---- a column
+-- ---- rows put one by one
 
-pub column-done : (c p j : ℕ) (ps R T R₁ T₁ R₂ T₂ : List ℕ) → length R ≡ length T → First (bit c) 0 R p j
-    → R₁ ≡ exchanged p j R → T₁ ≡ exchanged p j T
-    → R₂ ≡ swept 0 _⊕_ (λ i. bit c (getD R₁ i 0)) p (length R₁) R₁ → T₂ ≡ swept 0 _⊕_ (λ i. bit c (getD R₁ i 0)) p (length T₁) T₁
-    → (length R₂ ≡ length T₂) × (p + 1 ≤ length R₂)
-    × (halves (p + 1) (ps ++ (c ∷ [])) (zip R₂ T₂) ≡ column (0, 0) addBoth c (λ a. bit c (a .0)) (halves p ps (zip R T)))
-column-done c p j ps R T R₁ T₁ R₂ T₂ e f r₁ t₁ r₂ t₂ =
-    let from = f .from in
-    let inside = f .inside in
-    (long ∙ e ∙ sym long′, omega (arith, long), ap₂ (λ k l. halves k (ps ++ (c ∷ [])) l) (add-one p) (ap₂ zip rows transform) ∙ sym (both-at c p j ps R T e f))
-  where
-    R′ : List ℕ
-    R′ = swapped 0 p j R
-
-    T′ : List ℕ
-    T′ = swapped 0 p j T
-
-    inside-p : p < length R
-    inside-p = let a = f .from in let b = f .inside in omega arith
-
-    r′ : R₁ ≡ R′
-    r′ = r₁ ∙ exchanged-in p j R inside-p (f .inside)
-
-    t′ : T₁ ≡ T′
-    t′ = t₁ ∙ exchanged-in p j T (subst (λ m. p < m) e inside-p) (subst (λ m. j < m) e (f .inside))
-
-    rows : R₂ ≡ swept 0 _⊕_ (λ i. bit c (getD R′ i 0)) p (length R) R′
-    rows = r₂ ∙ ap (λ l. swept 0 _⊕_ (λ i. bit c (getD l i 0)) p (length l) l) r′ ∙ ap (λ m. swept 0 _⊕_ (λ i. bit c (getD R′ i 0)) p m R′) (swapped-length 0 p j R)
-
-    transform : T₂ ≡ swept 0 _⊕_ (λ i. bit c (getD R′ i 0)) p (length R) T′
-    transform =
-        t₂ ∙ ap₂ (λ k l. swept 0 _⊕_ (λ i. bit c (getD k i 0)) p (length l) l) r′ t′
-        ∙ ap (λ m. swept 0 _⊕_ (λ i. bit c (getD R′ i 0)) p m T′) (swapped-length 0 p j T ∙ sym e)
-
-    long : length R₂ ≡ length R
-    long = ap length rows ∙ swept-length 0 _⊕_ (λ i. bit c (getD R′ i 0)) p (length R) R′ ∙ swapped-length 0 p j R
-
-    long′ : length T₂ ≡ length T
-    long′ = ap length transform ∙ swept-length 0 _⊕_ (λ i. bit c (getD R′ i 0)) p (length R) T′ ∙ swapped-length 0 p j T
+-- over as many as there are
+pub put-all : (rows out : List ℕ) (i : ℕ) → length rows ≡ length out → i ≡ length out → take i rows ++ drop i out ≡ rows
+put-all rows out i e h = ap₂ _++_ (take-all i rows (omega arith)) (drop-of-length-le out {i = i} (omega arith)) ∙ append-nil rows
 
 -- ---- the two lists at the end
 

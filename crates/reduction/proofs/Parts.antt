@@ -1,11 +1,12 @@
--- The rows of I + F one by one, a list with its first members behind the others, and the front and the back of a reduction: the basis, the core.
+-- The rows of I + F one by one, a list with its first members behind the others, the front and the back of a reduction, and words that a matrix was
+-- reduced in: the basis, the core.
 -- Assumes nothing.
 use mathlib.Core.Path.{_≡_, refl, sym, ap, ap₂, _∙_}
 use mathlib.Core.List.{List, _++_, map, map-append}
 use Prim.Native.Nat.{ℕ, _+_, _-_, _%_, _^_, _≤_, _<_}
 use native.Mathlib.Omega.{arith}
 use lib.ListN.{length, take, drop, getD, length-map, length-append, length-drop, length-take, List·getD-append}
-use lib.Seq.{take-all, take-at, drop-at, getD-append-add, getD-take, getD-drop}
+use lib.Seq.{take-at, drop-at, getD-append-add, getD-take, getD-drop}
 use Rattle.binar.specs.Bits.{_⊕_}
 use Rattle.binar.specs.Rows.{width, rowBound}
 use Rattle.binar.proofs.Sums.{sum-comm}
@@ -21,8 +22,9 @@ use Rattle.symplectic.proofs.Lists.{map-eq}
 use Rattle.symplectic.proofs.Layers.{added, added-is, identityPlus-is}
 use Rattle.reduction.specs.Columns.{Echelon, rows, rowReduceWithTransform, rank}
 use Rattle.reduction.specs.Residue.{residue, reduction, basis, transform, timesTransposed, core}
-use Rattle.reduction.proofs.Core.{residue-length}
-use Rattle.reduction.proofs.Transform.{transform-rows-lt, up-rank, transform-length}
+use Rattle.reduction.specs.inner.Sweeps.{ReducedIn}
+use Rattle.reduction.proofs.Core.{residue-length, basis-rank}
+use Rattle.reduction.proofs.Transform.{transform-rows-lt, up-rank, rank-length, transform-length}
 
 -- ---- the rows of I + F
 
@@ -81,33 +83,50 @@ module _ (m : ℕ) (M : List ℕ) where
   pub uncut : length M ≤ width → All (λ a. a .1 % rowBound ≡ a .1) (rows all)
   uncut w = All·map (λ a h. kept-whole (length M) (a .1) w h) (rows all) (transform-rows-lt m M)
 
--- ---- the basis and the core
+-- ---- words that a matrix was reduced in
 
-module _ (n q p : ℕ) (F M R T : List ℕ) (size : length F ≡ q + q) (small : q ≤ maxQubits) (same : n ≡ q) (is : M ≡ residue q F)
-    (r : R ≡ map (λ a. a .0) (rows (rowReduceWithTransform (n + n) M))) (t : T ≡ map (λ a. a .1 % rowBound) (rows (rowReduceWithTransform (n + n) M)))
-    (k : p ≡ rank (n + n) M) where
+module _ (m p : ℕ) (M R T ps : List ℕ) (done : ReducedIn m M p R T ps) where
+  pub rank-in : p ≤ length M
+  rank-in = omega (arith, done .0, rank-length m M)
+
+  pub rank-in-rows : p ≤ length R
+  rank-in-rows =
+      let all = rows (rowReduceWithTransform m M) in
+      omega (arith, rank-in, ap length (done .1), length-map all (λ a. a .0), transform-length m M)
+
+  pub rank-in-transform : p ≤ length T
+  rank-in-transform =
+      let all = rows (rowReduceWithTransform m M) in
+      omega (arith, rank-in, ap length (done .2), length-map all (λ a. a .1 % rowBound), transform-length m M)
+
+-- those of a residue: the basis and the core
+module _ (n q p : ℕ) (F M R T ps : List ℕ) (size : length F ≡ q + q) (small : q ≤ maxQubits) (same : n ≡ q) (is : M ≡ residue q F)
+    (done : ReducedIn (n + n) M p R T ps) where
   same-rows : rowReduceWithTransform (n + n) M ≡ reduction q F
   unfolding reduction
   same-rows = ap₂ (λ k l. rowReduceWithTransform (k + k) l) same is
 
+  pub rank-end : p ≡ length (basis q F)
+  rank-end = done .0 ∙ ap₂ (λ k l. rank (k + k) l) same is ∙ sym (basis-rank q F)
+
   pub basis-end : take p R ≡ basis q F
   unfolding basis
-  basis-end = ap (take p) r ∙ front (n + n) M (λ a. a .0) p k ∙ ap (λ h. map (λ a. a .0) (h .up)) same-rows
+  basis-end = ap (take p) (done .1) ∙ front (n + n) M (λ a. a .0) p (done .0) ∙ ap (λ h. map (λ a. a .0) (h .up)) same-rows
 
   wide : length M ≤ width
   wide = omega (arith, ap length is, residue-length q F size)
+
+  pub rank-wide : p ≤ width
+  rank-wide = omega (arith, rank-in (n + n) p M R T ps done, wide)
 
   transform-end : take p T ≡ transform q F
   unfolding transform
   transform-end =
       let h = rowReduceWithTransform (n + n) M in
-      ap (take p) t ∙ front (n + n) M (λ a. a .1 % rowBound) p k
+      ap (take p) (done .2) ∙ front (n + n) M (λ a. a .1 % rowBound) p (done .0)
       ∙ map-eq (λ a. a .1 % rowBound) (λ a. a .1) (h .up) (All·left (λ a. a .1 % rowBound ≡ a .1) (h .up) (h .down) (uncut (n + n) M wide))
       ∙ ap (λ h. map (λ a. a .1) (h .up)) same-rows
 
-  short : length (transform q F) ≤ width
-  short = omega (arith, ap length (sym transform-end), length-take p T, ap length t, length-map (rows (rowReduceWithTransform (n + n) M)) (λ a. a .1 % rowBound), transform-length (n + n) M, wide)
-
-  pub core-end : timesTransposed (take p R) (take width (take p T)) ≡ core q F
+  pub core-end : timesTransposed (take p R) (take p T) ≡ core q F
   unfolding core
-  core-end = ap₂ timesTransposed basis-end (ap (take width) transform-end ∙ take-all width (transform q F) short)
+  core-end = ap₂ timesTransposed basis-end transform-end

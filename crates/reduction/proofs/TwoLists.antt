@@ -1,22 +1,19 @@
 -- The steps of a column on the rows and on the transform, each in a list of its own.
 -- Assumes nothing.
 use mathlib.Core.Path.{_≡_, refl, sym, ap, ap₂, _∙_, subst}
-use mathlib.Core.Bool.{Bool, true, false}
+use mathlib.Core.Bool.{Bool, false}
 use mathlib.Core.List.{List, [], _∷_, _++_, map, zip, zipWith}
-use Prim.Native.Nat.{ℕ, zero, suc, _≤_, _<_}
+use Prim.Native.Nat.{ℕ, zero, suc, _+_, _≤_, _<_}
 use native.Mathlib.Nat.{suc-inj, suc-ne-zero}
-use lib.Dec.{eqb}
+use native.Mathlib.Numerals.{add-one}
 use lib.ListN.{length, take, getD, set}
 use lib.Seq.{take-length}
-use Rattle.binar.specs.Bits.{bit, _⊕_}
-use Rattle.linear.proofs.Sums.{add-zero}
-use Rattle.linear.proofs.Instances.{𝕎, Prod}
+use Rattle.binar.specs.Bits.{bit}
 use Rattle.symplectic.specs.Picks.{addBoth}
 use Rattle.reduction.specs.Columns.{clear, column}
-use Rattle.reduction.specs.inner.Sweeps.{halves, sweepIf, swept}
+use Rattle.reduction.specs.inner.Sweeps.{halves, swapped, others, swept}
 use Rattle.blocks.proofs.Firsts.{First}
-use Rattle.reduction.proofs.Flat.{swapped, swapped-length, swapped-pivot, others, column-at, column-none}
-use Rattle.reduction.proofs.Sweep.{swept-length, swept-all}
+use Rattle.reduction.proofs.Flat.{swapped-pivot, column-at, column-none}
 
 -- ---- two lists of one length, side by side
 
@@ -91,57 +88,18 @@ zip-swapped R T e p j =
     ∙ ap (λ l. set l j (getD R p 0, getD T p 0)) (zip-set R T p (getD R j 0) (getD T j 0))
     ∙ sym (ap₂ (λ x y. set (set (zip R T) p x) j y) (zip-at R T 0 0 e j) (zip-at R T 0 0 e p))
 
-zip-swept : (R T : List ℕ) → length R ≡ length T → (t : ℕ → Bool) (p i : ℕ)
-    → zip (swept 0 _⊕_ t p i R) (swept 0 _⊕_ t p i T) ≡ swept zeros addBoth t p i (zip R T)
-unfolding swept
-zip-swept R T e t p zero = refl
-zip-swept R T e t p (suc i) = go (eqb i p) (t i) ∙ ap (sweepIf zeros addBoth p (eqb i p) (t i) i) (zip-swept R T e t p i)
-  where
-    R′ : List ℕ
-    R′ = swept 0 _⊕_ t p i R
-
-    T′ : List ℕ
-    T′ = swept 0 _⊕_ t p i T
-
-    long : length R′ ≡ length T′
-    long = swept-length 0 _⊕_ t p i R ∙ e ∙ sym (swept-length 0 _⊕_ t p i T)
-
-    go : (a b : Bool) → zip (sweepIf 0 _⊕_ p a b i R′) (sweepIf 0 _⊕_ p a b i T′) ≡ sweepIf zeros addBoth p a b i (zip R′ T′)
-    go true b = refl
-    go false false = refl
-    go false true =
-        zip-set R′ T′ i (getD R′ i 0 ⊕ getD R′ p 0) (getD T′ i 0 ⊕ getD T′ p 0)
-        ∙ sym (ap₂ (λ x y. set (zip R′ T′) i (addBoth x y)) (zip-at R′ T′ 0 0 long i) (zip-at R′ T′ 0 0 long p))
-
 -- ---- a column
 
-pub both-at : (c p j : ℕ) (ps R T : List ℕ) → length R ≡ length T → First (bit c) 0 R p j
-    → column (0, 0) addBoth c (λ a. bit c (a .0)) (halves p ps (zip R T))
-    ≡ halves (suc p) (ps ++ (c ∷ [])) (zip (swept 0 _⊕_ (λ i. bit c (getD (swapped 0 p j R) i 0)) p (length R) (swapped 0 p j R))
-    (swept 0 _⊕_ (λ i. bit c (getD (swapped 0 p j R) i 0)) p (length R) (swapped 0 p j T)))
+both-at : (c p j : ℕ) (ps R T : List ℕ) → length R ≡ length T → First (bit c) 0 R p j
+    → column (0, 0) addBoth c (λ a. bit c (a .0)) (halves p ps (zip R T)) ≡ halves (suc p) (ps ++ (c ∷ [])) (swept c p (zip (swapped 0 p j R) (swapped 0 p j T)))
 both-at c p j ps R T e f =
     column-at zeros addBoth zeros c has p j ps (zip R T) first
     ∙ ap (halves (suc p) (ps ++ (c ∷ [])))
     (ap (λ x. others (clear zeros addBoth has x) p (swapped zeros p j (zip R T))) (sym (swapped-pivot zeros p j (zip R T) (first .from) (first .inside)))
-    ∙ ap (λ l. others (clear zeros addBoth has (getD l p zeros)) p l) (sym (zip-swapped R T e p j))
-    ∙ sym (swept-all zeros zeros addBoth (add-zero (Prod 𝕎 𝕎)) has p (zip R′ T′) t (λ i h. ap has (sym (zip-at R′ T′ 0 0 long i))))
-    ∙ ap (λ m. swept zeros addBoth t p m (zip R′ T′)) (zip-length R′ T′ long ∙ swapped-length 0 p j R)
-    ∙ sym (zip-swept R′ T′ long t p (length R)))
+    ∙ ap (swept c p) (sym (zip-swapped R T e p j)))
   where
     has : ℕ × ℕ → Bool
     has a = bit c (a .0)
-
-    R′ : List ℕ
-    R′ = swapped 0 p j R
-
-    T′ : List ℕ
-    T′ = swapped 0 p j T
-
-    t : ℕ → Bool
-    t i = bit c (getD R′ i 0)
-
-    long : length R′ ≡ length T′
-    long = swapped-length 0 p j R ∙ e ∙ sym (swapped-length 0 p j T)
 
     first : First has zeros (zip R T) p j
     first = record {
@@ -156,3 +114,10 @@ pub both-none : (c p : ℕ) (ps R T : List ℕ) → length R ≡ length T → ((
 both-none c p ps R T e f =
     column-none (0, 0) addBoth (0, 0) c (λ a. bit c (a .0)) p ps (zip R T)
     (λ i a l. ap (λ x. bit c (x .0)) (zip-at R T 0 0 e i) ∙ f i a (subst (λ m. i < m) (zip-length R T e) l))
+
+-- a column's step, in the code's order
+pub column-next : (c p j : ℕ) (ps qs R T R₂ T₂ : List ℕ) → length R ≡ length T → First (bit c) 0 R p j → qs ≡ ps ++ (c ∷ [])
+    → zip R₂ T₂ ≡ swept c p (zip (swapped 0 p j R) (swapped 0 p j T))
+    → halves (p + 1) qs (zip R₂ T₂) ≡ column (0, 0) addBoth c (λ a. bit c (a .0)) (halves p ps (zip R T))
+column-next c p j ps qs R T R₂ T₂ e f is done =
+    ap₂ (λ k l. halves k qs l) (add-one p) done ∙ ap (λ x. halves (suc p) x (swept c p (zip (swapped 0 p j R) (swapped 0 p j T)))) is ∙ sym (both-at c p j ps R T e f)

@@ -58,23 +58,11 @@ next-left m l x i hm hl inv =
     ap (λ (y : List ℕ). getD y i 0) (inv ∙ ap (λ (y : List ℕ). take i m ++ y) (drop-cons l i 0 hl))
     ∙ getD-at (take i m) (getD l i 0) (drop (suc i) l) 0 i (length-take-le i m (omega arith))
 
-pub rows-next : (m l : List ℕ) (rows : List Row) (i : ℕ) → i < length m → i < length l → vals rows ≡ take i m ++ drop i l → val (getD rows i blank) ≡ getD l i 0
-rows-next m l rows i hm hl inv = vals-get rows i ∙ next-left m l (vals rows) i hm hl inv
-
--- the rows that are written
-pub rows-front : (m l : List ℕ) (i k : ℕ) → k ≤ i → i ≤ length m → take k (take i m ++ drop i l) ≡ take k m
-rows-front m l i k h g =
-    take-append-le k (take i m) (drop i l) (omega (arith, length-take-le i m g)) ∙ take-take k i m h
-
 -- all of them
 pub all-written : (m l : List ℕ) (i : ℕ) → length m ≤ i → length l ≤ i → take i m ++ drop i l ≡ m
 all-written m l i h g = ap₂ (λ (x y : List ℕ). x ++ y) (take-all i m h) (drop-of-length-le l g) ∙ append-nil m
 
 -- ---- the rows of a turn and of lent words
-
-pub followed-take : (n k : ℕ) (l : List ℕ) (v : ℕ) → take k (followed n l v) ≡ followed n (take k l) v
-unfolding followed
-followed-take n k l v = take-map (turn n v) k l
 
 pub followed-at : (n : ℕ) (l : List ℕ) (v i : ℕ) → i < length l → getD (followed n l v) i 0 ≡ turn n v (getD l i 0)
 unfolding followed

@@ -92,21 +92,6 @@ fn turned(u: Row, v: Row, s: Row) -> Row
     }
 }
 
-// The action followed by the turn of v.
-pub fn followed(a: Action, v: Row) -> Action
-    ensures { λ r. ⌜ (qubits r ≡ qubits a) × (matrix r ≡ followedOf (qubits a) (matrix a) (val v)) ⌝ }
-{
-    let mut b = a;
-    let n = qubits_of(a);
-    let count = n + n;
-    let s = swap_halves(n, v);
-    for i in 0..count {
-        let u = b.rows[i];
-        let w = turned(u, v, s);
-        b.rows[i] = w;
-    }
-    b
-}
 
 // Each row of words lent for work followed by the turn of v, on n qubits.
 pub fn follow(n: u64, w: &mut [u64], v: Row)
@@ -120,20 +105,6 @@ pub fn follow(n: u64, w: &mut [u64], v: Row)
     }
 }
 
-pub fn identity(n: u64) -> Action
-    ensures { λ r. ⌜ (qubits r ≡ cappedOf n) × (matrix r ≡ units (cappedOf n + cappedOf n)) ⌝ }
-{
-    let z = binar::zero();
-    let mut a = Action {
-        n: n,
-        rows: [z; MOST_ROWS],
-    };
-    for i in 0..MOST_ROWS {
-        let u = binar::unit(i);
-        a.rows[i] = u;
-    }
-    a
-}
 
 // The identity on n qubits put into words lent for work, as far as they reach.
 pub fn put_identity(n: u64, w: &mut [u64])

@@ -1,34 +1,83 @@
--- `joined` puts a simplex behind the peeled vectors, by `marked-joined`.
+-- `joined`: the rows that the list begins with, of which the first are those peeled and the others the simplex.
 -- Assumes nothing.
-use Rattle.family.proofs.Peeling.{marked-joined, made-map}
-use Rattle.family.specs.inner.Parts.{simplexOf, peeledBefore}
-use Rattle.family.specs.Readings.{ifMade, marked, listOf, familyOf}
-use Rattle.symplectic.specs.Picks.{mapSome}
-use Rattle.blocks.specs.Blocks.{rowsOf}
-use Prim.Native.Nat.{ℕ}
-use mathlib.Core.List.{List, map}
-use mathlib.Core.Bool.{Bool, true}
-use mathlib.Core.Path.{sym, ap, ap₂, _∙_}
+use mathlib.Core.Path.{_≡_, sym, ap, _∙_}
+use mathlib.Core.List.{List}
+use Prim.Native.Nat.{ℕ, _+_}
+use lib.ListN.{take, length-take}
+use lib.Seq.{length-take-le, take-all}
+use Rattle.blocks.specs.Blocks.{room, rowsOf}
+use Rattle.blocks.specs.Words.{rowsIn}
+use Rattle.blocks.proofs.Lent.{lent-within, lent-front}
+use Rattle.reduction.specs.Residue.{form}
+use Rattle.family.specs.Family.{symplecticSimplex}
+use Rattle.family.specs.Readings.{ifMade, listOf, familyOf}
+use Rattle.family.proofs.Peeling.{joined-made}
+use native.Mathlib.Omega.{arith}
 use borrow.Author.Needs.{needs}
 use Rattle.family.proofs.joined.Statement.{statement}
 use Rattle.family.proofs.joined.Tie as tie
 
-length-of-requires : tie.Need-length-of-requires
-length-of-requires c κs = search needs
+symplectic-simplex-requires : tie.Need-symplectic-simplex-requires
+symplectic-simplex-requires c κs = search needs
 
-appended-requires : tie.Need-appended-requires
-appended-requires c κs = search needs
+add-start : tie.Need-add-start
+add-start c = search needs
+
+add-start-2 : tie.Need-add-start-2
+add-start-2 c = search needs
+
+start-requires : tie.Need-start-requires
+start-requires c κs = search needs
+
+slice-reshare-prefix-from-words : tie.Need-slice-reshare-prefix-from-words
+slice-reshare-prefix-from-words c = search needs
+
+slice-aggregate-from-words : tie.Need-slice-aggregate-from-words
+slice-aggregate-from-words c =
+    let s = c .before .before .before .before .before .before .before .before .before .before .before .before .before .before .before .before .args in
+    let ws = c .before .before .before .before .before .before .before .before .before .symplectic-simplex .last .1 .1 .1 .0 in
+    let to = c .before .start in
+    sym (length-take-le (to .result) ws (lent-within (s .peeled + s .d + 1) (to .result) ws (to .ensures)))
+
+from-words-requires : tie.Need-from-words-requires
+from-words-requires c κs = search needs
+
+same-length : tie.Need-same-length
+same-length c = search needs
+
+same-length-2 : tie.Need-same-length-2
+same-length-2 c = search needs
+
+same-length-3 : tie.Need-same-length-3
+same-length-3 c = search needs
 
 returns : tie.Need-returns
-unfolding simplexOf familyOf listOf
+unfolding familyOf listOf
 returns c =
-    let s = c .before .before .args in
-    let made = s .o .construction in
-    let vs = rowsOf (s .o .vectors) in
-    let front = rowsOf (s .peeled) in
-    let related : List ℕ → List (ℕ × Bool) = map (λ v. (v, true)) in
-    ap₂ (λ (k : ℕ) (l : List ℕ). ifMade made (marked k l)) (c .before .length-of .ensures) (c .appended .ensures) ∙ ap (ifMade made) (marked-joined front vs)
-    ∙ sym (ap (mapSome (peeledBefore front)) (made-map related made vs) ∙ made-map (peeledBefore front) made (related vs))
+    let s = c .before .before .before .before .before .before .before .before .before .before .before .before .before .before .before .before .before .args in
+    let p = c .before .before .before .before .before .before .before .before .before .before .before .before .before .before .before .before .before .pre in
+    let made = c .before .before .before .before .before .before .before .before .before .before .symplectic-simplex in
+    let rows = rowsIn (made .last .1 .1 .1 .0) in
+    let k = s .peeled + s .d + 1 in
+    let to = c .before .before .start in
+    let vectors : rowsOf (c .from-words .result) ≡ take k rows =
+    c .from-words .ensures ∙ ap (take room) (lent-front k (to .result) (made .last .1 .1 .1 .0) (to .ensures)) ∙ take-all room (take k rows) (omega (arith, p .0, length-take k rows)) in
+    λ E fit. joined-made (made .result) (s .peeled) (rowsOf (c .from-words .result)) (take (s .peeled) (rowsIn (s .list .now)))
+    (symplecticSimplex (form E) (s .d) (take (s .d) (rowsIn (s .basis .now)))) (length-take-le (s .peeled) (rowsIn (s .list .now)) (omega (arith, p .2)))
+    (ap (λ (l : List ℕ). ifMade (made .result) l) vectors ∙ made .ensures E fit)
 
 pub joined-spec : {M : Type 1} → statement M
-joined-spec = tie.close (tie.spec length-of-requires appended-requires returns)
+joined-spec =
+    tie.close
+    (tie.spec
+    symplectic-simplex-requires
+    add-start
+    add-start-2
+    start-requires
+    slice-reshare-prefix-from-words
+    slice-aggregate-from-words
+    from-words-requires
+    same-length
+    same-length-2
+    same-length-3
+    returns)

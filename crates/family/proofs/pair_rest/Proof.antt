@@ -1,105 +1,62 @@
--- `pair_rest` writes the others one by one, and their form rows beside them, by `rest-member` and `rest-row`.
+-- `pair_rest` puts the others one by one over the members, and their form rows with them, by `rest-member` and `rest-row`.
 -- Assumes nothing.
-use Rattle.family.proofs.Others.{others-length, pairRest, rest-length, rest-member, rest-row}
-use Rattle.family.proofs.Members.{member-is, member-row}
-use Rattle.family.specs.inner.Parts.{othersOf}
-use Rattle.triangular.proofs.Cores.{basis-length, space-form, basis-rows, form-rows}
-use Rattle.triangular.specs.Readings.{basisOf, formsOf}
-use Rattle.blocks.proofs.Values.{write-next, unmapped}
-use Rattle.blocks.proofs.Products.{matmul-length}
-use Rattle.blocks.specs.Matrices.{matmul}
-use Rattle.blocks.specs.Blocks.{vals}
-use Rattle.binar.specs.Rows.{width, val}
-use Rattle.binar.specs.inner.Blank.{blank}
-use lib.Seq.{take-all}
-use lib.ListN.{length, length-set, getD, take}
-use Prim.Native.Nat.{ℕ, _-_, _≤_, _<_}
-use mathlib.Core.List.{List}
 use mathlib.Core.Path.{_≡_, refl, sym, ap, _∙_}
+use mathlib.Core.List.{List, _++_}
+use Prim.Native.Nat.{ℕ, _-_, _≤_, _<_}
+use lib.ListN.{length, getD, take, drop, length-set}
+use lib.Seq.{length-take-le}
+use Rattle.binar.specs.Bits.{select, _⊕_, dot}
+use Rattle.binar.specs.Rows.{val}
+use Rattle.blocks.specs.Matrices.{times, matmul}
+use Rattle.blocks.specs.Words.{rowsIn}
+use Rattle.blocks.proofs.Lent.{over-next}
+use Rattle.blocks.proofs.Products.{matmul-length}
+use Rattle.reduction.specs.Residue.{form}
+use Rattle.family.specs.inner.Parts.{othersOf, pairRest}
+use Rattle.family.proofs.Behind.{kept-at, put-all}
+use Rattle.family.proofs.Members.{member-is, row-is, member-form, fit-length}
+use Rattle.family.proofs.Others.{others-length, rest-length, rest-member, rest-row}
 use native.Mathlib.Omega.{arith}
 use borrow.Author.Needs.{needs}
 use Rattle.family.proofs.pair_rest.Statement.{statement}
 use Rattle.family.proofs.pair_rest.Tie as tie
 
 abbrev Inv-loop : tie.InvT-loop
-Inv-loop j s f ff p pf k t₀ n₀ t n =
-    (n ≤ k) × (length (t .basis) ≡ width) × (length (t .forms) ≡ width) × ((E : List ℕ) → matmul (basisOf s) E ≡ formsOf s
-    → (take n (vals (t .basis)) ≡ take n (pairRest E j (basisOf s))) × (take n (vals (t .forms)) ≡ take n (matmul (pairRest E j (basisOf s)) E)))
+Inv-loop basis₀ forms₀ d j f ff p pf k n₀ basis forms n = (n ≤ k) × (length basis ≡ length basis₀) × (length forms ≡ length forms₀)
+    × (length (rowsIn basis) ≡ length (rowsIn basis₀))
+    × ((E : List ℕ) → matmul (take d (rowsIn basis₀)) E ≡ take d (rowsIn forms₀)
+    → (rowsIn basis ≡ take n (pairRest (form E) j (take d (rowsIn basis₀))) ++ drop n (rowsIn basis₀))
+    × (rowsIn forms ≡ take n (matmul (pairRest (form E) j (take d (rowsIn basis₀))) E) ++ drop n (rowsIn forms₀)))
 
 abbrev μ-loop : tie.MeasureT-loop
-μ-loop j s f ff p pf k t₀ n₀ t n = k - n
+μ-loop basis₀ forms₀ d j f ff p pf k n₀ basis forms n = k - n
 
-long : (c : tie.Start Inv-loop μ-loop) → length (c .args .t1 .basis) ≡ width
-long c = search (needs, unmapped)
+row-requires : tie.Need-row-requires Inv-loop μ-loop
+row-requires c κs = search needs
 
-long-forms : (c : tie.Start Inv-loop μ-loop) → length (c .args .t1 .forms) ≡ width
-long-forms c = search (needs, unmapped)
+row-requires-2 : tie.Need-row-requires-2 Inv-loop μ-loop
+row-requires-2 c κs = search needs
 
-basis-size : (c : tie.Start Inv-loop μ-loop) → length (basisOf (c .args .t1)) ≡ c .args .t1 .count
-basis-size c = basis-length (c .args .t1) (omega (arith, long c, c .pre .2))
+row-requires-3 : tie.Need-row-requires-3 Inv-loop μ-loop
+row-requires-3 c κs = search needs
 
-element-copy-out-f : tie.Need-element-copy-out-f Inv-loop μ-loop
-element-copy-out-f c = search needs
+row-requires-4 : tie.Need-row-requires-4 Inv-loop μ-loop
+row-requires-4 c κs = search needs
 
-element-copy-out-ff : tie.Need-element-copy-out-ff Inv-loop μ-loop
-element-copy-out-ff c = search needs
-
-mul-p : tie.Need-mul-p Inv-loop μ-loop
-mul-p c = search needs
-
-element-copy-out-p : tie.Need-element-copy-out-p Inv-loop μ-loop
-element-copy-out-p c = search needs
-
-mul-pf : tie.Need-mul-pf Inv-loop μ-loop
-mul-pf c = search needs
-
-element-copy-out-pf : tie.Need-element-copy-out-pf Inv-loop μ-loop
-element-copy-out-pf c = search needs
+size : (c : tie.Start Inv-loop μ-loop) → length (take (c .args .d) (rowsIn (c .args .basis .now))) ≡ c .args .d
+size c = length-take-le (c .args .d) (rowsIn (c .args .basis .now)) (c .pre .3)
 
 sub-k : tie.Need-sub-k Inv-loop μ-loop
-sub-k c = omega (arith, c .before .before .before .before .pre .0, c .before .before .before .before .pre .1)
+sub-k c = omega (arith, c .before .before .before .before .before .before .before .before .before .before .pre .0, c .before .before .before .before .before .before .before .before .before .before .pre .1)
 
 loop-holds : tie.Need-loop-holds Inv-loop μ-loop
-loop-holds c = (search needs, long (c .before .before .before .before), long-forms (c .before .before .before .before), λ E fit. (refl, refl))
+loop-holds c = (search needs, refl, refl, refl, λ E fit. (refl, refl))
 
 index-past-pair-requires : tie.Need-index-past-pair-requires Inv-loop μ-loop
-index-past-pair-requires c κs = omega (arith, c .before .before .before .before .before .before .pre .2)
+index-past-pair-requires c κs = omega (arith, c .before .before .before .before .before .before .before .before .before .before .before .before .pre .2)
 
-mul-y : tie.Need-mul-y Inv-loop μ-loop
-mul-y c = omega (arith, c .index-past-pair .ensures .0, c .before .before .before .before .before .before .before .pre .2, c .before .before .before .before .before .before .before .pre .1, c .before .before .before .before .before .before .before .pre .0)
-
-element-copy-out-y : tie.Need-element-copy-out-y Inv-loop μ-loop
-element-copy-out-y c = omega (arith, c .index-past-pair .ensures .0, c .before .before .before .before .before .before .before .pre .2, c .before .before .before .before .before .before .before .pre .1, c .before .before .before .before .before .before .before .pre .0)
-
-mul-g : tie.Need-mul-g Inv-loop μ-loop
-mul-g c = omega (arith, c .before .index-past-pair .ensures .0, c .before .before .before .before .before .before .before .before .pre .2, c .before .before .before .before .before .before .before .before .pre .1, c .before .before .before .before .before .before .before .before .pre .0)
-
-element-copy-out-g : tie.Need-element-copy-out-g Inv-loop μ-loop
-element-copy-out-g c = omega (arith, c .before .index-past-pair .ensures .0, c .before .before .before .before .before .before .before .before .pre .2, c .before .before .before .before .before .before .before .before .pre .1, c .before .before .before .before .before .before .before .before .pre .0)
-
-dot-requires : tie.Need-dot-requires Inv-loop μ-loop
-dot-requires c κs = search needs
-
-dot-requires-2 : tie.Need-dot-requires-2 Inv-loop μ-loop
-dot-requires-2 c κs = search needs
-
-cleared-of-pair-requires : tie.Need-cleared-of-pair-requires Inv-loop μ-loop
-cleared-of-pair-requires c κs = search needs
-
-mul-t : tie.Need-mul-t Inv-loop μ-loop
-mul-t c = search needs
-
-element-set-from-t : tie.Need-element-set-from-t Inv-loop μ-loop
-element-set-from-t c = search needs
-
-cleared-of-pair-requires-2 : tie.Need-cleared-of-pair-requires-2 Inv-loop μ-loop
-cleared-of-pair-requires-2 c κs = search needs
-
-mul-t28 : tie.Need-mul-t28 Inv-loop μ-loop
-mul-t28 c = search needs
-
-element-set-from-t-2 : tie.Need-element-set-from-t-2 Inv-loop μ-loop
-element-set-from-t-2 c = search needs
+put-cleared-requires : tie.Need-put-cleared-requires Inv-loop μ-loop
+put-cleared-requires c κs = search needs
 
 add-n : tie.Need-add-n Inv-loop μ-loop
 add-n c = search needs
@@ -109,63 +66,84 @@ loop-less c = search needs
 
 loop-again : tie.Need-loop-again Inv-loop μ-loop
 loop-again c =
-    let start = c .before .before .before .before .before .before .before .before .before .before .before .before .before in
-    let s = start .args .t1 in
-    let j = start .args .j in
-    let B = basisOf s in
-    let at = c .before .before .before .before .before .before .before .before .loop in
-    let n = at .n in
-    let i = c .before .before .before .before .before .before .index-past-pair .result in
+    let start = c .before .before .before .before .before .before .before .before .before .before .before .before .before .before .before .before .before .before .before .before in
+    let s = start .args in
     let low = start .pre .0 in
     let high = start .pre .1 in
-    let hi : i < s .count = omega (arith, c .before .before .before .before .before .before .index-past-pair .ensures .0) in
-    let h0 : 0 < s .count = omega arith in
-    let size = basis-size start in
-    let hj : j < length B = omega arith in
-    let inside : n < length (othersOf j B) = omega (arith, others-length j B low hj) in
-    let a = c .before .before .before .dot in
-    let b = c .before .before .dot2 in
-    let y = val (getD (s .basis) i blank) in
-    let f = val (getD (s .basis) 0 blank) in
-    let p = val (getD (s .basis) j blank) in
-    let new = c .before .cleared-of-pair .ensures in
-    let member : (E : List ℕ) → matmul B E ≡ formsOf s → val (c .before .cleared-of-pair .result) ≡ getD (pairRest E j B) n 0 =
-    λ E fit. rest-member E j B y f p (a .result) (b .result) (val (c .before .cleared-of-pair .result)) new n i inside (c .before .before .before .before .before .before .index-past-pair .ensures .1 B low hj)
-    (member-is s i hi) (member-is s 0 h0) (member-is s j high) (space-form s E fit j i high hi (a .result) (a .ensures)) (space-form s E fit 0 i h0 hi (b .result) (b .ensures)) in (
+    let at = c .before .before .before .before .before .before .before .before .before .loop in
+    let n = at .n in
+    let b = rowsIn (s .basis .now) in
+    let g = rowsIn (s .forms .now) in
+    let B = take (s .d) b in
+    let f = c .before .before .before .before .before .before .before .before .before .before .before .before .before .before .before .before .row in
+    let ff = c .before .before .before .before .before .before .before .before .before .before .before .before .before .before .row2 in
+    let p = c .before .before .before .before .before .before .before .before .before .before .before .before .row3 in
+    let pf = c .before .before .before .before .before .before .before .before .before .before .row4 in
+    let place = c .before .before .before .before .before .before .before .index-past-pair in
+    let i = place .result in
+    let y = getD (rowsIn (at .basis)) i 0 in
+    let v = y ⊕ select 0 (dot (val (pf .result)) y) (val (f .result)) ⊕ select 0 (dot (val (ff .result)) y) (val (p .result)) in
+    let test = c .before .before .before .before .before .before .before .before .loop-test .taken in
+    let long = size start in
+    let past = place .ensures .0 in
+    let hi : i < s .d = omega (arith, place .ensures .1) in
+    let h0 : 0 < s .d = omega arith in
+    let hj : s .j < length B = omega arith in
+    let inside : n < length (othersOf (s .j) B) = omega (arith, others-length (s .j) B low hj) in
+    let done = c .before .before .before .before .put-cleared .ensures in (
       search needs,
-      simp length-set (at .inv .1),
-      simp length-set (at .inv .2),
-      λ E fit. (
-        write-next (pairRest E j B) (at .t .basis) n (c .before .cleared-of-pair .result) (omega (arith, rest-length E j B low hj)) (omega (arith, at .inv .1, start .pre .2)) (at .inv .3 E fit .0) (member E fit),
-        write-next (matmul (pairRest E j B) E) (at .t .forms) n (c .cleared-of-pair2 .result) (omega (arith, matmul-length (pairRest E j B) E, rest-length E j B low hj)) (omega (arith, at .inv .2, start .pre .2))
-            (at .inv .3 E fit .1)
-            (rest-row E j B y f p (a .result) (b .result) (val (c .before .cleared-of-pair .result)) new n (val (getD (s .forms) i blank)) (val (getD (s .forms) 0 blank)) (val (getD (s .forms) j blank)) (val (c .cleared-of-pair2 .result))
-            (member-row s i hi E fit) (member-row s 0 h0 E fit) (member-row s j high E fit) (c .cleared-of-pair2 .ensures) (member E fit)),
-      ),
+      search needs,
+      search needs,
+      ap length (done .0) ∙ length-set (rowsIn (at .basis)) n v ∙ at .inv .3,
+      λ E fit.
+          let M = pairRest (form E) (s .j) B in
+          let count = rest-length (form E) (s .j) B low hj in
+          let more = matmul-length M E in
+          let y-is : y ≡ getD b i 0 = kept-at M b (rowsIn (at .basis)) n i (at .inv .4 E fit .0) (omega arith) (omega arith) in
+          let z-is = kept-at (matmul M E) g (rowsIn (at .forms)) n i (at .inv .4 E fit .1) (omega arith) (omega arith) in
+          let y-in = member-is (s .d) b i hi y y-is in
+          let f-in = member-is (s .d) b 0 h0 (val (f .result)) (f .ensures) in
+          let p-in = member-is (s .d) b (s .j) high (val (p .result)) (p .ensures) in
+          let member =
+          rest-member E (s .j) B y (val (f .result)) (val (p .result)) (dot (val (pf .result)) y) (dot (val (ff .result)) y) v refl n i inside (place .ensures .2 B low hj) y-in f-in p-in
+          (member-form (s .d) b g E fit (s .j) i high hi (val (pf .result)) y (pf .ensures) y-is (dot (val (pf .result)) y) refl)
+          (member-form (s .d) b g E fit 0 i h0 hi (val (ff .result)) y (ff .ensures) y-is (dot (val (ff .result)) y) refl) in (
+            done .0 ∙ over-next M b (rowsIn (at .basis)) n v (omega arith) (omega (arith, start .pre .3)) (at .inv .4 E fit .0) member,
+            done .1
+                ∙ over-next (matmul M E) g (rowsIn (at .forms)) n _ (omega arith) (omega (arith, fit-length (s .d) b g E fit (start .pre .3))) (at .inv .4 E fit .1)
+                (rest-row E (s .j) B y (val (f .result)) (val (p .result)) (dot (val (pf .result)) y) (dot (val (ff .result)) y) v refl n (getD (rowsIn (at .forms)) i 0) (val (ff .result)) (val (pf .result)) _
+                (row-is (s .d) b g E fit i hi (getD (rowsIn (at .forms)) i 0) z-is ∙ ap (λ (x : ℕ). times x E) (sym y-in))
+                (row-is (s .d) b g E fit 0 h0 (val (ff .result)) (ff .ensures) ∙ ap (λ (x : ℕ). times x E) (sym f-in))
+                (row-is (s .d) b g E fit (s .j) high (val (pf .result)) (pf .ensures) ∙ ap (λ (x : ℕ). times x E) (sym p-in)) refl member),
+          ),
     )
 
+same-length : tie.Need-same-length Inv-loop μ-loop
+same-length c = search needs
+
+same-length-2 : tie.Need-same-length-2 Inv-loop μ-loop
+same-length-2 c = search needs
+
 returns : tie.Need-returns Inv-loop μ-loop
-unfolding pairRest
 returns c =
-    let start = c .before .before .before .before .before .before in
-    let s = start .args .t1 in
-    let j = start .args .j in
-    let B = basisOf s in
-    let at = c .before .loop in
+    let start = c .before .before .before .before .before .before .before .before .before .before .before .before in
+    let s = start .args in
     let low = start .pre .0 in
     let high = start .pre .1 in
-    let size = basis-size start in
-    let hj : j < length B = omega arith in
-    let e : s .count - 2 ≡ at .n = omega arith in (
-      refl,
+    let at = c .before .loop in
+    let b = rowsIn (s .basis .now) in
+    let g = rowsIn (s .forms .now) in
+    let B = take (s .d) b in
+    let long = size start in
+    let hj : s .j < length B = omega arith in (
+      at .inv .3,
       λ E fit.
-          let M = pairRest E j B in
-          let is : take (s .count - 2) (vals (at .t .basis)) ≡ M =
-          ap (λ (n : ℕ). take n (vals (at .t .basis))) e ∙ at .inv .3 E fit .0 ∙ take-all (at .n) M (omega (arith, rest-length E j B low hj)) in (
-            basis-rows _ ∙ is,
-            ap (λ (l : List ℕ). matmul l E) (basis-rows _ ∙ is)
-                ∙ sym (form-rows _ ∙ ap (λ (n : ℕ). take n (vals (at .t .forms))) e ∙ at .inv .3 E fit .1
-                ∙ take-all (at .n) (matmul M E) (omega (arith, matmul-length M E, rest-length E j B low hj))),
+          let M = pairRest (form E) (s .j) B in
+          let count = rest-length (form E) (s .j) B low hj in
+          let n : at .n ≡ s .d - 2 = omega arith in
+          let is = put-all M b (rowsIn (at .basis)) (at .n) (s .d - 2) n (omega arith) (at .inv .4 E fit .0) in (
+            is,
+            ap (λ (l : List ℕ). matmul l E) is ∙ sym (put-all (matmul M E) g (rowsIn (at .forms)) (at .n) (s .d - 2) n (omega (arith, matmul-length M E)) (at .inv .4 E fit .1)),
           ),
     )
 
@@ -175,28 +153,17 @@ pair-rest-spec =
     (tie.spec
     Inv-loop
     μ-loop
-    element-copy-out-f
-    element-copy-out-ff
-    mul-p
-    element-copy-out-p
-    mul-pf
-    element-copy-out-pf
+    row-requires
+    row-requires-2
+    row-requires-3
+    row-requires-4
     sub-k
     loop-holds
     index-past-pair-requires
-    mul-y
-    element-copy-out-y
-    mul-g
-    element-copy-out-g
-    dot-requires
-    dot-requires-2
-    cleared-of-pair-requires
-    mul-t
-    element-set-from-t
-    cleared-of-pair-requires-2
-    mul-t28
-    element-set-from-t-2
+    put-cleared-requires
     add-n
     loop-less
     loop-again
+    same-length
+    same-length-2
     returns)

@@ -1,15 +1,16 @@
 -- `pick` takes the first of the two choices that is made, by `pick-of-one` and `pick-of-uneven`.
 -- Assumes nothing.
-use Rattle.family.proofs.Members.{picked-vector, picked-nothing}
+use mathlib.Core.Path.{_≡_, sym, ap, _∙_}
+use lib.ListN.{take}
+use Rattle.binar.specs.Bits.{_⊕_}
+use Rattle.binar.specs.Rows.{val}
+use Rattle.blocks.specs.Words.{rowsIn}
+use Rattle.reduction.specs.Residue.{form}
+use Rattle.symplectic.specs.Picks.{mapSome, firstOne}
+use Rattle.symplectic.proofs.FirstPicks.{pick-of-one, pick-of-uneven}
 use Rattle.family.specs.declared.Picked.the-variants.{Vector, Nothing}
 use Rattle.family.specs.inner.Parts.{besideRow}
-use Rattle.symplectic.proofs.FirstPicks.{pick-of-one, pick-of-uneven}
-use Rattle.symplectic.specs.Picks.{mapSome, firstOne}
-use Rattle.triangular.specs.Readings.{basisOf}
-use Rattle.reduction.specs.Residue.{form}
-use Rattle.binar.specs.Rows.{val}
-use Rattle.binar.specs.Bits.{_⊕_}
-use mathlib.Core.Path.{_≡_, sym, ap, _∙_}
+use Rattle.family.proofs.Members.{picked-vector, picked-nothing}
 use borrow.Author.Needs.{needs}
 use Rattle.family.proofs.pick.Statement.{statement}
 use Rattle.family.proofs.pick.Tie as tie
@@ -28,7 +29,8 @@ first-uneven-requires c κs = search needs
 
 returns : tie.Need-returns
 returns c =
-    let B = basisOf (c .before .before .before .args .s) in
+    let s = c .before .before .before .before .before .args in
+    let B = take (s .d) (rowsIn (s .basis .now)) in
     let p = c .before .before .first-one in
     let g = c .enum-told .given in
     let is : p .result ≡ Vector (g .0 .0) (g .0 .1 .0) = search (needs, g) in
@@ -38,7 +40,8 @@ returns c =
 
 returns-2 : tie.Need-returns-2
 returns-2 c =
-    let B = basisOf (c .before .before .before .before .args .s) in
+    let s = c .before .before .before .before .before .before .args in
+    let B = take (s .d) (rowsIn (s .basis .now)) in
     let p = c .before .before .before .first-one in
     let is : p .result ≡ Nothing = search (needs, c .before .enum-told2 .given) in
     λ E fit.

@@ -1,18 +1,16 @@
--- What the values that a family is made from mean: a vector picked, the members beside a pair, a simplex, and peeled vectors.
+-- What the values that a family is made from mean: a vector picked, the members beside a pair, vectors behind others, and peeled vectors.
 -- Assumes nothing.
 use mathlib.Core.Bool.{Bool, false}
 use mathlib.Core.List.{List, _++_, map}
 use mathlib.Core.Option.{Option, none, some}
 use Prim.Native.Nat.{ℕ, _-_}
-use lib.ListN.{drop}
+use lib.ListN.{getD, drop}
 use Rattle.binar.specs.Rows.{val}
-use Rattle.blocks.specs.Blocks.{rowsOf}
 use Rattle.blocks.specs.Matrices.{times}
 use Rattle.blocks.specs.inner.Lists.{without}
+use Rattle.family.specs.Family.{clearedOfPair}
 use Rattle.family.specs.declared.Picked.{Picked}
 use Rattle.family.specs.declared.Picked.the-variants.{Vector, Nothing}
-use Rattle.family.specs.declared.Simplex.{Simplex}
-use Rattle.family.specs.Readings.{ifMade}
 
 -- a vector beside its form row
 abbrev pub besideRow : List ℕ → ℕ → ℕ × ℕ
@@ -26,8 +24,13 @@ pickedOf Nothing = none
 unfoldable pub othersOf : ℕ → List ℕ → List ℕ
 othersOf j B = without (j - 1) (drop 1 B)
 
-unfoldable pub simplexOf : Simplex → Option (List ℕ)
-simplexOf s = ifMade (s .construction) (rowsOf (s .vectors))
+-- these, cleared of the first and the j-th
+unfoldable pub pairRest : (ℕ → ℕ → Bool) → ℕ → List ℕ → List ℕ
+pairRest E j B = map (clearedOfPair E (getD B 0 0) (getD B j 0)) (othersOf j B)
+
+-- vectors behind others
+abbrev pub behind : List ℕ → List ℕ → List ℕ
+behind front vs = front ++ vs
 
 -- peeled vectors, and a family behind them
 unfoldable pub peeledBefore : List ℕ → List (ℕ × Bool) → List (ℕ × Bool)

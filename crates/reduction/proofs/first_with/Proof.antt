@@ -3,10 +3,9 @@
 use mathlib.Core.Path.{_≡_, sym, ap, _∙_}
 use mathlib.Core.Bool.{false}
 use Prim.Native.Nat.{ℕ, _-_, _≤_, _<_}
-use lib.ListN.{length, getD}
+use lib.ListN.{getD}
 use Rattle.binar.specs.Bits.{bit}
-use Rattle.blocks.specs.Blocks.{room, rowsOf}
-use Rattle.blocks.proofs.Values.{rows-get, rows-fit, unmapped}
+use Rattle.blocks.specs.Words.{rowsIn}
 use Rattle.reduction.proofs.Loops.{none-more}
 use native.Mathlib.Omega.{arith}
 use borrow.Author.Needs.{needs}
@@ -14,24 +13,19 @@ use Rattle.reduction.proofs.first_with.Statement.{statement}
 use Rattle.reduction.proofs.first_with.Tie as tie
 
 abbrev Inv-loop : tie.InvT-loop
-Inv-loop c p b k i₀ i = (p ≤ i) × (k ≤ room) × ((x : ℕ) → p ≤ x → x < i → bit c (getD (rowsOf b) x 0) ≡ false)
+Inv-loop a c p k i₀ i = (p ≤ i) × ((x : ℕ) → p ≤ x → x < i → bit c (getD (rowsIn a) x 0) ≡ false)
 
 abbrev μ-loop : tie.MeasureT-loop
-μ-loop c p b k i₀ i = k - i
+μ-loop a c p k i₀ i = k - i
 
-length-of-requires : tie.Need-length-of-requires Inv-loop μ-loop
-length-of-requires c κs = search needs
+rows-in-requires : tie.Need-rows-in-requires Inv-loop μ-loop
+rows-in-requires c κs = search needs
 
 loop-holds : tie.Need-loop-holds Inv-loop μ-loop
-loop-holds c =
-    let h = rows-fit (c .before .args .t1) (search (needs, unmapped)) in
-    (search needs, omega (arith, c .length-of .ensures), λ x a l. absurd (omega arith))
+loop-holds c = (search needs, λ x a l. absurd (omega arith))
 
-mul-bit : tie.Need-mul-bit Inv-loop μ-loop
-mul-bit c = search needs
-
-element-copy-out-bit : tie.Need-element-copy-out-bit Inv-loop μ-loop
-element-copy-out-bit c = search needs
+row-requires : tie.Need-row-requires Inv-loop μ-loop
+row-requires c κs = search needs
 
 bit-requires : tie.Need-bit-requires Inv-loop μ-loop
 bit-requires c κs = search needs
@@ -39,9 +33,8 @@ bit-requires c κs = search needs
 returns : tie.Need-returns Inv-loop μ-loop
 returns c =
     let at = c .before .before .before .before .loop in
-    let s = c .before .before .before .before .before .before .args in
-    let h : at .i < length (rowsOf (s .t1)) = omega (arith, c .before .before .before .before .before .length-of .ensures) in
-    (at .inv .0, omega arith, at .inv .2, λ l. ap (bit (s .c)) (sym (rows-get (s .t1) (at .i) h)) ∙ sym (c .before .bit .ensures) ∙ c .if1 .taken)
+    let s = c .before .before .before .before .before .before .before .args in
+    (at .inv .0, omega (arith, c .before .before .before .before .before .rows-in .ensures), at .inv .1, λ l. ap (bit (s .c)) (sym (c .before .before .row .ensures)) ∙ sym (c .before .bit .ensures) ∙ c .if1 .taken)
 
 add-i : tie.Need-add-i Inv-loop μ-loop
 add-i c = search needs
@@ -52,18 +45,16 @@ loop-less c = search needs
 loop-again : tie.Need-loop-again Inv-loop μ-loop
 loop-again c =
     let at = c .before .before .before .before .loop in
-    let s = c .before .before .before .before .before .before .args in
-    let h : at .i < length (rowsOf (s .t1)) = omega (arith, c .before .before .before .before .before .length-of .ensures) in (
+    let s = c .before .before .before .before .before .before .before .args in (
       search needs,
-      search needs,
-      none-more (λ x. bit (s .c) (getD (rowsOf (s .t1)) x 0)) (s .p) (at .i) (at .inv .2)
-          (ap (bit (s .c)) (sym (rows-get (s .t1) (at .i) h)) ∙ sym (c .before .bit .ensures) ∙ c .if1 .left),
+      none-more (λ x. bit (s .c) (getD (rowsIn (s .a .now)) x 0)) (s .p) (at .i) (at .inv .1)
+          (ap (bit (s .c)) (sym (c .before .before .row .ensures)) ∙ sym (c .before .bit .ensures) ∙ c .if1 .left),
     )
 
 returns-2 : tie.Need-returns-2 Inv-loop μ-loop
 returns-2 c =
-    let e = c .before .before .length-of .ensures in
-    (omega (arith, e, c .before .before .before .pre), omega (arith, e), λ x a l. c .before .loop .inv .2 x a (omega arith), λ h. absurd (omega (arith, e)))
+    let e = c .before .before .rows-in .ensures in
+    (omega (arith, e, c .before .before .before .before .pre), omega (arith, e), λ x a l. c .before .loop .inv .1 x a (omega arith), λ h. absurd (omega (arith, e)))
 
 pub first-with-spec : {M : Type 1} → statement M
 first-with-spec =
@@ -71,10 +62,9 @@ first-with-spec =
     (tie.spec
     Inv-loop
     μ-loop
-    length-of-requires
+    rows-in-requires
     loop-holds
-    mul-bit
-    element-copy-out-bit
+    row-requires
     bit-requires
     returns
     add-i

@@ -1,121 +1,80 @@
--- `identity_plus_from` writes the rows of I + F one by one, by `plus-from-at`.
+-- `identity_plus_from` gives back the rows that are put in local words.
 -- Assumes nothing.
-use mathlib.Core.Path.{_≡_, refl, ap₂, _∙_}
-use mathlib.Core.List.{List, _++_}
-use Prim.Native.Nat.{ℕ, _+_, _-_, _≤_, _<_}
-use lib.ListN.{length, take, drop, length-set}
-use Rattle.binar.specs.Bits.{_⊕_}
-use Rattle.binar.proofs.Ones.{unit-is}
-use Rattle.blocks.specs.Blocks.{room, vals}
-use Rattle.blocks.proofs.Values.{rows-are, write-next, write-end, unmapped}
-use Rattle.symplectic.specs.declared.Action.{Action}
-use Rattle.symplectic.specs.Actions.{maxQubits, qubits, matrix}
-use Rattle.symplectic.specs.Turns.{identityPlus}
-use Rattle.symplectic.proofs.Arrays.{qubits-le, matrix-length, matrix-get}
-use Rattle.reduction.proofs.Parts.{plus-from-length, plus-from-at}
+use mathlib.Core.Path.{refl, ap, _∙_}
+use Prim.Native.Nat.{ℕ, _+_, _≤_}
+use Rattle.symplectic.specs.Actions.{mostRows}
+use Rattle.symplectic.proofs.Arrays.{qubits-le}
+use Rattle.reduction.proofs.Words.{lent-room, lent-count, lent-rows, left-room, left-count, left-rows}
 use native.Mathlib.Omega.{arith}
 use borrow.Author.Needs.{needs}
 use Rattle.reduction.proofs.identity_plus_from.Statement.{statement}
 use Rattle.reduction.proofs.identity_plus_from.Tie as tie
 
-abbrev from : ℕ → Action → List ℕ
-from k a = let l = identityPlus (qubits a) (matrix a) in drop k l ++ take k l
+-- the array has room for the rows of an action
+fits : (c : tie.After-qubits-of) → c .qubits-of .result + c .qubits-of .result ≤ mostRows
+fits c = omega (arith, c .qubits-of .ensures, qubits-le (c .before .args .a))
 
-abbrev Inv-loop : tie.InvT-loop
-Inv-loop k a n m r₀ i₀ r i =
-    (i ≤ m) × (m ≡ n + n) × (n ≡ qubits a) × (n ≤ maxQubits) × (length (r .rows) ≡ room) × (take i (vals (r .rows)) ≡ take i (from k a))
-
-abbrev μ-loop : tie.MeasureT-loop
-μ-loop k a n m r₀ i₀ r i = m - i
-
-qubits-of-requires : tie.Need-qubits-of-requires Inv-loop μ-loop
+qubits-of-requires : tie.Need-qubits-of-requires
 qubits-of-requires c κs = search needs
 
-add-m : tie.Need-add-m Inv-loop μ-loop
-add-m c = omega (arith, qubits-le (c .before .args .t1), c .qubits-of .ensures)
+slice-aggregate-start : tie.Need-slice-aggregate-start
+slice-aggregate-start c = refl
 
-empty-requires : tie.Need-empty-requires Inv-loop μ-loop
-empty-requires c κs = search needs
+add-start : tie.Need-add-start
+add-start c = omega (arith, c .before .qubits-of .ensures, qubits-le (c .before .before .args .a))
 
-loop-holds : tie.Need-loop-holds Inv-loop μ-loop
-loop-holds c =
-    let e = c .before .qubits-of .ensures in
-    (search needs, refl, e, omega (arith, e, qubits-le (c .before .before .args .t1)), search (needs, unmapped), refl)
+start-requires : tie.Need-start-requires
+start-requires c κs = search needs
 
-rotated-requires : tie.Need-rotated-requires Inv-loop μ-loop
-rotated-requires c κs = search needs
+array-borrow-prefix-w : tie.Need-array-borrow-prefix-w
+array-borrow-prefix-w c =
+    let n = c .before .before .qubits-of .result in
+    lent-room (n + n) mostRows (c .start .result) (c .start .ensures)
 
-mul-sum : tie.Need-mul-sum Inv-loop μ-loop
-mul-sum c = omega (arith, c .rotated .ensures .0)
-
-element-copy-out-sum : tie.Need-element-copy-out-sum Inv-loop μ-loop
-element-copy-out-sum c = omega (arith, c .rotated .ensures .0)
-
-unit-requires : tie.Need-unit-requires Inv-loop μ-loop
-unit-requires c κs = search needs
-
-sum-requires : tie.Need-sum-requires Inv-loop μ-loop
-sum-requires c κs = search needs
-
-mul-w : tie.Need-mul-w Inv-loop μ-loop
-mul-w c = search needs
-
-element-set-from-w : tie.Need-element-set-from-w Inv-loop μ-loop
-element-set-from-w c = search needs
-
-add-i : tie.Need-add-i Inv-loop μ-loop
-add-i c = search needs
-
-loop-less : tie.Need-loop-less Inv-loop μ-loop
-loop-less c = search needs
-
-loop-again : tie.Need-loop-again Inv-loop μ-loop
-loop-again c =
-    let at = c .before .before .before .before .before .loop in
-    let s = c .before .before .before .before .before .before .before .before .args in
-    let a = s .t1 in
-    let o = c .before .before .before .rotated in
-    let j = o .result in
-    let size = matrix-length a (search (needs, unmapped)) in
-    let h : j < qubits a + qubits a = omega (arith, o .ensures .0, at .inv .2) in (
-      search needs,
-      refl,
-      at .inv .2,
-      at .inv .3,
-      simp length-set (at .inv .4),
-      write-next (from (s .k) a) (at .r .rows) (at .i) (c .sum .result)
-          (omega (arith, plus-from-length (qubits a) (matrix a) size (s .k), at .inv .2)) (omega (arith, at .inv .4)) (at .inv .5)
-          (c .sum .ensures ∙ ap₂ _⊕_ (matrix-get a j h) (c .before .unit .ensures ∙ unit-is j (omega (arith, at .inv .3, o .ensures .0)))
-          ∙ plus-from-at (qubits a) (matrix a) size (s .k) (at .i) j h (λ l e. o .ensures .1 l (e ∙ omega (arith, at .inv .2)))),
-    )
-
-returns : tie.Need-returns Inv-loop μ-loop
-returns c =
-    let at = c .before .loop in
-    let s = c .before .before .before .before .args in
-    let a = s .t1 in
+slice-aggregate-put-plus : tie.Need-slice-aggregate-put-plus
+slice-aggregate-put-plus c =
     let n = c .before .before .before .qubits-of .result in
-    let size = matrix-length a (search (needs, unmapped)) in
-    rows-are _ ∙ write-end (from (s .k) a) (at .r .rows) (at .i) (n + n) (omega arith) (omega (arith, plus-from-length (qubits a) (matrix a) size (s .k), at .inv .2)) (at .inv .5)
+    lent-count (n + n) mostRows (c .before .start .result) (c .before .start .ensures)
+
+put-plus-requires : tie.Need-put-plus-requires
+put-plus-requires c κs =
+    let n = c .before .before .before .qubits-of in
+    (c .before .before .before .before .pre, lent-rows (n .result + n .result) mostRows (c .before .start .result) (c .before .start .ensures) (fits (c .before .before .before)) ∙ ap (λ (m : ℕ). m + m) (n .ensures))
+
+array-share-prefix-w : tie.Need-array-share-prefix-w
+array-share-prefix-w c =
+    let n = c .before .before .before .before .before .qubits-of .result in
+    let o = c .before .put-plus in
+    left-room (n + n) mostRows (c .before .before .before .start .result) (c .before .before .before .start .ensures) (o .last .1 .1 .0) (o .kept .1 .1 .0)
+
+slice-aggregate-from-words : tie.Need-slice-aggregate-from-words
+slice-aggregate-from-words c =
+    let n = c .before .before .before .before .before .before .qubits-of .result in
+    let o = c .before .before .put-plus in
+    left-count (n + n) mostRows (c .before .before .before .before .start .result) (c .before .before .before .before .start .ensures) (o .last .1 .1 .0) (o .kept .1 .1 .0)
+
+from-words-requires : tie.Need-from-words-requires
+from-words-requires c κs = search needs
+
+returns : tie.Need-returns
+returns c =
+    let n = c .before .before .before .before .before .before .before .qubits-of .result in
+    let o = c .before .before .before .put-plus in
+    let in-array = fits (c .before .before .before .before .before .before .before) in
+    c .from-words .ensures ∙ left-rows (n + n) mostRows (c .before .before .before .before .before .start .result) (c .before .before .before .before .before .start .ensures) (o .last .1 .1 .0) (o .kept .1 .1 .0) in-array (omega (arith, in-array)) ∙ o .ensures
 
 pub identity-plus-from-spec : {M : Type 1} → statement M
 identity-plus-from-spec =
     tie.close
     (tie.spec
-    Inv-loop
-    μ-loop
     qubits-of-requires
-    add-m
-    empty-requires
-    loop-holds
-    rotated-requires
-    mul-sum
-    element-copy-out-sum
-    unit-requires
-    sum-requires
-    mul-w
-    element-set-from-w
-    add-i
-    loop-less
-    loop-again
+    slice-aggregate-start
+    add-start
+    start-requires
+    array-borrow-prefix-w
+    slice-aggregate-put-plus
+    put-plus-requires
+    array-share-prefix-w
+    slice-aggregate-from-words
+    from-words-requires
     returns)

@@ -1,69 +1,84 @@
--- `residue_core` takes the front parts of a reduction, by `basis-end` and `core-end`.
+-- `residue_core` lends local words that have room for the rows of an action.
 -- Assumes nothing.
-use mathlib.Core.Path.{_≡_, ap₂, _∙_}
-use lib.ListN.{length, take}
-use Rattle.binar.specs.Rows.{width}
-use Rattle.blocks.proofs.Values.{unmapped}
-use Rattle.blocks.specs.Blocks.{rowsOf}
-use Rattle.symplectic.specs.Actions.{mostRows, qubits, matrix}
-use Rattle.symplectic.proofs.Arrays.{qubits-le, matrix-length}
-use Rattle.reduction.specs.Residue.{timesTransposed}
-use Rattle.reduction.proofs.Parts.{basis-end, core-end}
+use mathlib.Core.Path.{refl, ap, _∙_}
+use Prim.Native.Nat.{ℕ, _+_, _≤_}
+use Rattle.symplectic.specs.Actions.{mostRows}
+use Rattle.symplectic.proofs.Arrays.{qubits-le}
+use Rattle.reduction.proofs.Words.{lent-room, lent-count, lent-rows}
 use native.Mathlib.Omega.{arith}
 use borrow.Author.Needs.{needs}
 use Rattle.reduction.proofs.residue_core.Statement.{statement}
 use Rattle.reduction.proofs.residue_core.Tie as tie
 
-long : (c : tie.Start) → length (c .args .a .rows) ≡ mostRows
-long c = search (needs, unmapped)
+-- the arrays have room for the rows of an action
+fits : (c : tie.After-qubits-of) → c .qubits-of .result + c .qubits-of .result ≤ mostRows
+fits c = omega (arith, c .qubits-of .ensures, qubits-le (c .before .before .before .args .a))
 
 qubits-of-requires : tie.Need-qubits-of-requires
 qubits-of-requires c κs = search needs
 
-add-row-reduce-with-transform : tie.Need-add-row-reduce-with-transform
-add-row-reduce-with-transform c = omega (arith, qubits-le (c .before .args .a), c .qubits-of .ensures)
+slice-aggregate-start : tie.Need-slice-aggregate-start
+slice-aggregate-start c = refl
 
-residue-requires : tie.Need-residue-requires
-residue-requires c κs = search needs
+add-start : tie.Need-add-start
+add-start c = omega (arith, fits (c .before))
 
-row-reduce-with-transform-requires : tie.Need-row-reduce-with-transform-requires
-row-reduce-with-transform-requires c κs = search needs
+start-requires : tie.Need-start-requires
+start-requires c κs = search needs
 
-first-rows-requires : tie.Need-first-rows-requires
-first-rows-requires c κs = search needs
+array-borrow-prefix-rows : tie.Need-array-borrow-prefix-rows
+array-borrow-prefix-rows c =
+    let n = c .before .before .qubits-of .result in
+    lent-room (n + n) mostRows (c .start .result) (c .start .ensures)
 
-first-rows-requires-2 : tie.Need-first-rows-requires-2
-first-rows-requires-2 c κs = search needs
+slice-aggregate-residue-core-in : tie.Need-slice-aggregate-residue-core-in
+slice-aggregate-residue-core-in c =
+    let n = c .before .before .before .qubits-of .result in
+    lent-count (n + n) mostRows (c .before .start .result) (c .before .start .ensures)
 
-times-transposed-requires : tie.Need-times-transposed-requires
-times-transposed-requires c κs = search needs
+array-borrow-prefix-transform : tie.Need-array-borrow-prefix-transform
+array-borrow-prefix-transform c =
+    let n = c .before .before .before .qubits-of .result in
+    lent-room (n + n) mostRows (c .before .start .result) (c .before .start .ensures)
+
+slice-aggregate-residue-core-in-2 : tie.Need-slice-aggregate-residue-core-in-2
+slice-aggregate-residue-core-in-2 c =
+    let n = c .before .before .before .before .qubits-of .result in
+    lent-count (n + n) mostRows (c .before .before .start .result) (c .before .before .start .ensures)
+
+slice-aggregate-residue-core-in-3 : tie.Need-slice-aggregate-residue-core-in-3
+slice-aggregate-residue-core-in-3 c = refl
+
+residue-core-in-requires : tie.Need-residue-core-in-requires
+residue-core-in-requires c κs =
+    let n = c .before .before .before .before .before .before .before .qubits-of in
+    let twice = ap (λ (m : ℕ). m + m) (n .ensures) in
+    let long = lent-rows (n .result + n .result) mostRows (c .before .before .before .before .before .start .result) (c .before .before .before .before .before .start .ensures) (fits (c .before .before .before .before .before .before .before)) ∙ twice in
+    (long, long, omega (arith, twice, fits (c .before .before .before .before .before .before .before)))
+
+same-length : tie.Need-same-length
+same-length c = c .before .before .before .before .before .before .before .residue-core-in .kept .1 .1 .1 .1 .0
+
+same-length-2 : tie.Need-same-length-2
+same-length-2 c = c .before .before .before .before .before .before .before .residue-core-in .kept .1 .1 .1 .1 .1 .0
 
 returns : tie.Need-returns
-returns c =
-    let a = c .before .before .before .before .before .before .args .a in
-    let n = c .before .before .before .before .before .qubits-of .result in
-    let same = c .before .before .before .before .before .qubits-of .ensures in
-    let M = rowsOf (c .before .before .before .before .residue .result) in
-    let is = c .before .before .before .before .residue .ensures in
-    let r = c .before .before .before .row-reduce-with-transform .result in
-    let e = c .before .before .before .row-reduce-with-transform .ensures in
-    let R = rowsOf (r .rows) in
-    let T = rowsOf (r .transform) in
-    let size = matrix-length a (long (c .before .before .before .before .before .before)) in (
-      c .before .before .first-rows .ensures ∙ basis-end n (qubits a) (r .rank) (matrix a) M R T size (qubits-le a) same is (e .0) (e .1 .0) (e .1 .1 .0 .0),
-      c .times-transposed .ensures ∙ ap₂ (λ B S. timesTransposed B (take width S)) (c .before .before .first-rows .ensures) (c .before .first-rows2 .ensures)
-          ∙ core-end n (qubits a) (r .rank) (matrix a) M R T size (qubits-le a) same is (e .0) (e .1 .0) (e .1 .1 .0 .0),
-    )
+returns c = c .before .before .before .before .before .before .before .residue-core-in .ensures
 
 pub residue-core-spec : {M : Type 1} → statement M
 residue-core-spec =
     tie.close
     (tie.spec
     qubits-of-requires
-    add-row-reduce-with-transform
-    residue-requires
-    row-reduce-with-transform-requires
-    first-rows-requires
-    first-rows-requires-2
-    times-transposed-requires
+    slice-aggregate-start
+    add-start
+    start-requires
+    array-borrow-prefix-rows
+    slice-aggregate-residue-core-in
+    array-borrow-prefix-transform
+    slice-aggregate-residue-core-in-2
+    slice-aggregate-residue-core-in-3
+    residue-core-in-requires
+    same-length
+    same-length-2
     returns)

@@ -1,32 +1,34 @@
--- What a reduction of the code means, and the sweep of a column, row by row: the pivot row is added to each other row that has the column.
+-- A column's step where all rows stand in one list, and what words that a matrix was reduced in hold.
 -- Assumes nothing.
-use mathlib.Core.Bool.{Bool, true, false}
-use mathlib.Core.List.{List, zip}
-use Prim.Native.Nat.{ℕ, zero, suc}
-use lib.Dec.{eqb}
+use mathlib.Core.Path.{_≡_}
+use mathlib.Core.List.{List, [], _∷_, map}
+use Prim.Native.Nat.{ℕ, zero, suc, _%_}
 use lib.ListN.{take, drop, getD, set}
-use Rattle.blocks.specs.Blocks.{rowsOf}
-use Rattle.reduction.specs.declared.Reduction.{Reduction}
-use Rattle.reduction.specs.Columns.{Echelon}
-use Rattle.reduction.specs.Pivots.{pivotsOf}
+use Rattle.binar.specs.Bits.{bit}
+use Rattle.binar.specs.Rows.{rowBound}
+use Rattle.symplectic.specs.Picks.{addBoth}
+use Rattle.reduction.specs.Columns.{Echelon, rows, clear, rowReduceWithTransform, rank}
 
 -- all rows with the pivot row at p, and the pivots
 abbrev pub halves : {A : Type 0} → ℕ → List ℕ → List A → Echelon A
 halves p ps l = record { up = take p l; down = drop p l; pivots = ps }
 
--- the rows of a reduction beside those of its transform, with the pivot row at the rank
-abbrev pub echelonOf : Reduction → Echelon (ℕ × ℕ)
-echelonOf r = halves (r .rank) (pivotsOf r) (zip (rowsOf (r .rows)) (rowsOf (r .transform)))
+-- the rows p and j exchanged
+abbrev pub swapped : {A : Type 0} → A → ℕ → ℕ → List A → List A
+swapped d p j l = set (set l p (getD l j d)) j (getD l p d)
 
-module _ {A : Type 0} (d : A) (add : A → A → A) (p : ℕ) where
-  -- row i, where it is not the pivot row and has the column
-  abbrev pub sweepIf : Bool → Bool → ℕ → List A → List A
-  sweepIf true b i l = l
-  sweepIf false false i l = l
-  sweepIf false true i l = set l i (add (getD l i d) (getD l p d))
+-- every row but row p changed
+unfoldable pub others : {A : Type 0} → (A → A) → ℕ → List A → List A
+others f p [] = []
+others f zero (y ∷ ys) = y ∷ map f ys
+others f (suc p) (y ∷ ys) = f y ∷ others f p ys
 
-module _ {A : Type 0} (d : A) (add : A → A → A) (t : ℕ → Bool) (p : ℕ) where
-  -- the rows before i have been swept; row k has the column where t says so
-  unfoldable pub swept : ℕ → List A → List A
-  swept zero l = l
-  swept (suc i) l = sweepIf d add p (eqb i p) (t i) i (swept i l)
+-- rows beside those of the transform, column c cleared from every row but row p
+abbrev pub swept : ℕ → ℕ → List (ℕ × ℕ) → List (ℕ × ℕ)
+swept c p l = others (clear (0, 0) addBoth (λ a. bit c (a .0)) (getD l p (0, 0))) p l
+
+-- the rank, rows, transform (as far as a row has columns) and pivots of M reduced by its first m columns
+abbrev pub ReducedIn : ℕ → List ℕ → ℕ → List ℕ → List ℕ → List ℕ → Type 0
+ReducedIn m M r R T ps =
+    let all = rowReduceWithTransform m M in
+    (r ≡ rank m M) × (R ≡ map (λ a. a .0) (rows all)) × (T ≡ map (λ a. a .1 % rowBound) (rows all)) × (ps ≡ all .pivots)

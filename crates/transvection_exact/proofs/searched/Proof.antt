@@ -1,17 +1,18 @@
--- `searched` replies to questions 6 and 7, by `searched-spent`, `searched-found`, `searched-unbordered` and `searched-bordered`.
+-- `searched` lends the basis and the core, as many rows as the rank says, to `from_core`.
 -- Assumes nothing.
-use mathlib.Core.Path.{_≡_, sym, ap, _∙_}
-use Prim.Native.Nat.{ℕ, _+_}
-use lib.ListN.{length}
-use Rattle.blocks.specs.Blocks.{rowsOf}
-use Rattle.blocks.specs.Matrices.{matmul}
-use Rattle.blocks.specs.Words.{laid}
+use mathlib.Core.Path.{_≡_, sym, ap, ap₂, _∙_}
+use mathlib.Core.List.{List}
+use Prim.Native.Nat.{ℕ, _+_, _≤_, min}
+use native.Mathlib.Omega.{arith}
+use lib.ListN.{length, take, replicate}
+use Rattle.blocks.specs.Words.{rowsIn, wordsFor, over}
+use Rattle.blocks.proofs.Lent.{lent-front, over-front}
 use Rattle.blocks.proofs.Values.{unmapped}
 use Rattle.symplectic.specs.Actions.{mostRows, qubits, matrix}
-use Rattle.symplectic.specs.Replies.{Reply}
 use Rattle.symplectic.proofs.Arrays.{qubits-le, matrix-length}
-use Rattle.bordered.proofs.Listed.{bordered-of}
-use Rattle.transvection_exact.proofs.Outcomes.{searched-spent, searched-found, searched-unbordered, searched-bordered}
+use Rattle.symplectic.proofs.Work.{room-in, part-words}
+use Rattle.reduction.specs.Residue.{basis, core}
+use Rattle.reduction.proofs.Core.{core-length, basis-within, core-within}
 use borrow.Author.Needs.{needs}
 use Rattle.transvection_exact.proofs.searched.Statement.{statement}
 use Rattle.transvection_exact.proofs.searched.Tie as tie
@@ -19,112 +20,77 @@ use Rattle.transvection_exact.proofs.searched.Tie as tie
 size : (c : tie.Start) → length (matrix (c .args .a)) ≡ qubits (c .args .a) + qubits (c .args .a)
 size c = let long : length (c .args .a .rows) ≡ mostRows = search (needs, unmapped) in matrix-length (c .args .a) long
 
-qubits-of-requires : tie.Need-qubits-of-requires
-qubits-of-requires c κs = search needs
+slice-aggregate-residue-core : tie.Need-slice-aggregate-residue-core
+slice-aggregate-residue-core c = search needs
+
+slice-aggregate-residue-core-2 : tie.Need-slice-aggregate-residue-core-2
+slice-aggregate-residue-core-2 c = search needs
 
 residue-core-requires : tie.Need-residue-core-requires
 residue-core-requires c κs = search needs
 
-congruence-triangularize-requires : tie.Need-congruence-triangularize-requires
-congruence-triangularize-requires c κs = search needs
+slice-aggregate-start : tie.Need-slice-aggregate-start
+slice-aggregate-start c = search needs
 
-enum-told : tie.Need-enum-told
-enum-told c = search needs
+start-requires : tie.Need-start-requires
+start-requires c κs = search needs
 
-returns : tie.Need-returns
-returns c =
-    let start = c .before .before .before .before .before .before .before .before in
-    let s = start .args in
-    let o = c .before .before .congruence-triangularize in
-    let r = c .before .before .before .before .before .residue-core in
-    let w = searched-spent (qubits (s .a)) (matrix (s .a)) (size start) (qubits-le (s .a)) (s .budget) (s .out .now) (r .result .core) (r .ensures .1) (o .result) (o .ensures) (search (needs, c .enum-told .given)) in
-    (sym (ap (λ (x : Reply). x .figures) w), sym (ap (λ (x : Reply). x .words) w))
+slice-aggregate-start-2 : tie.Need-slice-aggregate-start-2
+slice-aggregate-start-2 c = search needs
 
-enum-told-2 : tie.Need-enum-told-2
-enum-told-2 c = search needs
+start-requires-2 : tie.Need-start-requires-2
+start-requires-2 c κs = search needs
 
-product-requires : tie.Need-product-requires
-product-requires c κs = search needs
+array-share-prefix-basis : tie.Need-array-share-prefix-basis
+array-share-prefix-basis c = search needs
 
-stored-requires : tie.Need-stored-requires
-stored-requires c κs = search needs
+slice-aggregate-from-core : tie.Need-slice-aggregate-from-core
+slice-aggregate-from-core c = part-words (c .before .before .before .before .before .before .before .residue-core .result) (c .before .before .before .start .result) (c .before .before .before .before .before .before .before .residue-core .last .1 .0) (c .before .before .before .start .ensures)
+
+array-share-prefix-core : tie.Need-array-share-prefix-core
+array-share-prefix-core c = search needs
+
+slice-aggregate-from-core-2 : tie.Need-slice-aggregate-from-core-2
+slice-aggregate-from-core-2 c = part-words (c .before .before .before .before .before .before .before .before .residue-core .result) (c .before .before .start2 .result) (c .before .before .before .before .before .before .before .before .residue-core .last .1 .1 .0) (c .before .before .start2 .ensures)
+
+from-core-requires : tie.Need-from-core-requires
+from-core-requires c κs =
+    let start = c .before .before .before .before .before .before .before .before .before .before .before .before .before in
+    let a = start .args .a in
+    let n = qubits a in
+    let F = matrix a in
+    let r = c .before .before .before .before .before .before .before .before .before .residue-core in
+    let b-few = basis-within n F (size start) in
+    let c-few = core-within n F (size start) in
+    let b-size : r .result ≡ length (basis n F) = r .ensures .0 in
+    let c-size : r .result ≡ length (core n F) = r .ensures .0 ∙ sym (core-length n F) in (
+      lent-front (r .result) (c .before .before .before .before .before .start .result) (r .last .1 .0) (c .before .before .before .before .before .start .ensures) ∙ ap₂ take b-size (r .ensures .1 .0)
+          ∙ over-front (basis n F) (rowsIn (replicate mostRows 0)) (room-in mostRows (length (basis n F)) (omega (arith, b-few, qubits-le a))),
+      lent-front (r .result) (c .before .before .before .start2 .result) (r .last .1 .1 .0) (c .before .before .before .start2 .ensures) ∙ ap₂ take c-size (r .ensures .1 .1)
+          ∙ over-front (core n F) (rowsIn (replicate mostRows 0)) (room-in mostRows (length (core n F)) (omega (arith, c-few, qubits-le a))),
+    )
 
 same-length : tie.Need-same-length
 same-length c = search needs
 
-returns-2 : tie.Need-returns-2
-returns-2 c =
-    let start = c .before .before .before .before .before .before .before .before .before .before .before .before .before .before in
-    let s = start .args in
-    let o = c .before .before .before .before .before .before .before .before .congruence-triangularize in
-    let r = c .before .before .before .before .before .before .before .before .before .before .before .residue-core in
-    let q = c .before .before .before .before .before .before .before .before .before .before .before .before .qubits-of .ensures in
-    let p = c .before .before .before .before .product in
-    let vs = rowsOf (p .result) in
-    let e = c .before .before .stored .ensures in
-    let w = searched-found (qubits (s .a)) (matrix (s .a)) (size start) (qubits-le (s .a)) (s .budget) (s .out .now) (r .result .core) (r .ensures .1) (o .result) (o .ensures) (rowsOf (p .result)) (search (needs, c .before .before .before .before .before .before .enum-told2 .given)) (p .ensures ∙ ap (matmul (rowsOf (o .result .list))) (r .ensures .0)) in
-    (e .0 ∙ sym (ap (λ (x : Reply). x .figures) w), e .1 ∙ ap (λ (m : ℕ). laid m vs (s .out .now)) q ∙ sym (ap (λ (x : Reply). x .words) w))
-
-enum-told-3 : tie.Need-enum-told-3
-enum-told-3 c = search needs
-
-bordered-list-requires : tie.Need-bordered-list-requires
-bordered-list-requires c κs = search needs
-
-enum-told-4 : tie.Need-enum-told-4
-enum-told-4 c = search needs
-
-returns-3 : tie.Need-returns-3
-returns-3 c =
-    let start = c .before .before .before .before .before .before .before .before .before .before .before in
-    let s = start .args in
-    let o = c .before .before .before .before .before .congruence-triangularize in
-    let r = c .before .before .before .before .before .before .before .before .residue-core in
-    let b = c .before .before .bordered-list in
-    let w = searched-unbordered (qubits (s .a)) (matrix (s .a)) (size start) (qubits-le (s .a)) (s .budget) (s .out .now) (r .result .core) (r .ensures .1) (o .result) (o .ensures) (search (needs, c .before .before .before .enum-told3 .given)) (b .result) (b .ensures ∙ bordered-of (qubits (s .a)) (matrix (s .a)) (size start) (qubits-le (s .a)) (r .result .basis) (r .result .core) (r .ensures .0) (r .ensures .1)) (search (needs, c .enum-told4 .given)) in
-    (sym (ap (λ (x : Reply). x .figures) w), sym (ap (λ (x : Reply). x .words) w))
-
-enum-told-5 : tie.Need-enum-told-5
-enum-told-5 c = search needs
-
-stored-requires-2 : tie.Need-stored-requires-2
-stored-requires-2 c κs = search needs
-
-same-length-2 : tie.Need-same-length-2
-same-length-2 c = search needs
-
-returns-4 : tie.Need-returns-4
-returns-4 c =
-    let start = c .before .before .before .before .before .before .before .before .before .before .before .before .before .before .before .before in
-    let s = start .args in
-    let o = c .before .before .before .before .before .before .before .before .before .before .congruence-triangularize in
-    let r = c .before .before .before .before .before .before .before .before .before .before .before .before .before .residue-core in
-    let q = c .before .before .before .before .before .before .before .before .before .before .before .before .before .before .qubits-of .ensures in
-    let b = c .before .before .before .before .before .before .before .bordered-list in
-    let vs = rowsOf (b .result .list) in
-    let e = c .before .before .stored2 .ensures in
-    let w = searched-bordered (qubits (s .a)) (matrix (s .a)) (size start) (qubits-le (s .a)) (s .budget) (s .out .now) (r .result .core) (r .ensures .1) (o .result) (o .ensures) (search (needs, c .before .before .before .before .before .before .before .before .enum-told3 .given)) (b .result) (b .ensures ∙ bordered-of (qubits (s .a)) (matrix (s .a)) (size start) (qubits-le (s .a)) (r .result .basis) (r .result .core) (r .ensures .0) (r .ensures .1)) (search (needs, c .before .before .before .before .before .enum-told5 .given)) in
-    (e .0 ∙ sym (ap (λ (x : Reply). x .figures) w), e .1 ∙ ap (λ (m : ℕ). laid m vs (s .out .now)) q ∙ sym (ap (λ (x : Reply). x .words) w))
+returns : tie.Need-returns
+returns c = search needs
 
 pub searched-spec : {M : Type 1} → statement M
 searched-spec =
     tie.close
     (tie.spec
-    qubits-of-requires
+    slice-aggregate-residue-core
+    slice-aggregate-residue-core-2
     residue-core-requires
-    congruence-triangularize-requires
-    enum-told
-    returns
-    enum-told-2
-    product-requires
-    stored-requires
+    slice-aggregate-start
+    start-requires
+    slice-aggregate-start-2
+    start-requires-2
+    array-share-prefix-basis
+    slice-aggregate-from-core
+    array-share-prefix-core
+    slice-aggregate-from-core-2
+    from-core-requires
     same-length
-    returns-2
-    enum-told-3
-    bordered-list-requires
-    enum-told-4
-    returns-3
-    enum-told-5
-    stored-requires-2
-    same-length-2
-    returns-4)
+    returns)

@@ -1,0 +1,26 @@
+-- `added` is a sum with the row or with 0, by the bit.
+-- Assumes nothing.
+use mathlib.Core.Path.{sym, ap, _∙_}
+use mathlib.Core.Bool.{Bool}
+use Rattle.binar.specs.Bits.{select, _⊕_}
+use Rattle.binar.specs.Rows.{val}
+use Rattle.binar.proofs.Sums.{sum-zero}
+use borrow.Author.Needs.{needs}
+use Rattle.family.proofs.added.Statement.{statement}
+use Rattle.family.proofs.added.Tie as tie
+
+sum-requires : tie.Need-sum-requires
+sum-requires c κs = search needs
+
+returns : tie.Need-returns
+returns c =
+    let s = c .before .before .args in
+    c .sum .ensures ∙ ap (λ (b : Bool). val (s .y) ⊕ select 0 b (val (s .m))) (sym (c .before .if1 .taken))
+
+returns-2 : tie.Need-returns-2
+returns-2 c =
+    let s = c .before .args in
+    sym (sum-zero (val (s .y))) ∙ ap (λ (b : Bool). val (s .y) ⊕ select 0 b (val (s .m))) (sym (c .if1 .left))
+
+pub added-spec : {M : Type 1} → statement M
+added-spec = tie.close (tie.spec sum-requires returns returns-2)

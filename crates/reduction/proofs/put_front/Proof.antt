@@ -1,0 +1,84 @@
+-- `put_front` puts row after row, by `over-next` and `over-end`.
+-- Assumes nothing.
+use mathlib.Core.Path.{_≡_, refl, sym, _∙_}
+use mathlib.Core.List.{_++_}
+use Prim.Native.Nat.{_-_, _≤_, _<_}
+use lib.ListN.{length, take, drop}
+use lib.Seq.{getD-take, length-take-le}
+use Rattle.blocks.specs.Words.{rowsIn}
+use Rattle.blocks.proofs.Lent.{over-next, over-end}
+use native.Mathlib.Omega.{arith}
+use borrow.Author.Needs.{needs}
+use Rattle.reduction.proofs.put_front.Statement.{statement}
+use Rattle.reduction.proofs.put_front.Tie as tie
+
+abbrev Inv-loop : tie.InvT-loop
+Inv-loop k rows out₀ m i₀ out i =
+    (i ≤ m) × (length out ≡ length out₀) × (rowsIn out ≡ take i (take k (rowsIn rows)) ++ drop i (rowsIn out₀))
+
+abbrev μ-loop : tie.MeasureT-loop
+μ-loop k rows out₀ m i₀ out i = m - i
+
+rows-in-requires : tie.Need-rows-in-requires Inv-loop μ-loop
+rows-in-requires c κs = search needs
+
+lesser-requires : tie.Need-lesser-requires Inv-loop μ-loop
+lesser-requires c κs = search needs
+
+loop-holds : tie.Need-loop-holds Inv-loop μ-loop
+loop-holds c = (search needs, refl, refl)
+
+row-requires : tie.Need-row-requires Inv-loop μ-loop
+row-requires c κs = search needs
+
+put-requires : tie.Need-put-requires Inv-loop μ-loop
+put-requires c κs = search needs
+
+add-i : tie.Need-add-i Inv-loop μ-loop
+add-i c = search needs
+
+loop-less : tie.Need-loop-less Inv-loop μ-loop
+loop-less c = search needs
+
+loop-again : tie.Need-loop-again Inv-loop μ-loop
+loop-again c =
+    let at = c .before .before .before .before .before .before .loop in
+    let s = c .before .before .before .before .before .before .before .before .before .before .before .before .args in
+    let rows = rowsIn (s .rows .now) in
+    let size = length-take-le (s .k) rows (c .before .before .before .before .before .before .before .before .before .before .before .before .pre) in
+    let m = c .before .before .before .before .before .before .before .lesser .ensures in
+    let h : at .i < s .k = omega (arith, m) in (
+      search needs,
+      search needs,
+      c .before .before .put .ensures
+          ∙ over-next (take (s .k) rows) (rowsIn (s .out .now)) (rowsIn (at .out)) (at .i) _ (omega (arith, size)) (omega (arith, m, c .before .before .before .before .before .before .before .before .rows-in .ensures)) (at .inv .2)
+          (c .before .before .before .row .ensures ∙ sym (getD-take (s .k) rows (at .i) 0 h)),
+    )
+
+same-length : tie.Need-same-length Inv-loop μ-loop
+same-length c = search needs
+
+returns : tie.Need-returns Inv-loop μ-loop
+returns c =
+    let at = c .before .loop in
+    let s = c .before .before .before .before .before .before .before .args in
+    let rows = rowsIn (s .rows .now) in
+    let size = length-take-le (s .k) rows (c .before .before .before .before .before .before .before .pre) in
+    at .inv .2 ∙ over-end (take (s .k) rows) (rowsIn (s .out .now)) (at .i) (omega (arith, size, c .before .before .lesser .ensures, c .before .before .before .rows-in .ensures))
+
+pub put-front-spec : {M : Type 1} → statement M
+put-front-spec =
+    tie.close
+    (tie.spec
+    Inv-loop
+    μ-loop
+    rows-in-requires
+    lesser-requires
+    loop-holds
+    row-requires
+    put-requires
+    add-i
+    loop-less
+    loop-again
+    same-length
+    returns)

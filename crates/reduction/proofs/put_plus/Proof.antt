@@ -1,0 +1,116 @@
+-- `put_plus` puts the rows of I + F one by one, by `plus-from-at`.
+-- Assumes nothing.
+use mathlib.Core.Path.{_≡_, refl, sym, ap₂, _∙_}
+use mathlib.Core.List.{List, _++_}
+use Prim.Native.Nat.{ℕ, _+_, _-_, _≤_, _<_}
+use lib.ListN.{length, take, drop}
+use Rattle.binar.specs.Bits.{_⊕_}
+use Rattle.binar.proofs.Ones.{unit-is}
+use Rattle.blocks.specs.Words.{rowsIn}
+use Rattle.blocks.proofs.Lent.{over-next}
+use Rattle.blocks.proofs.Values.{unmapped}
+use Rattle.symplectic.specs.declared.Action.{Action}
+use Rattle.symplectic.specs.Actions.{mostRows, qubits, matrix}
+use Rattle.symplectic.specs.Turns.{identityPlus}
+use Rattle.symplectic.proofs.Arrays.{qubits-le, matrix-length, matrix-get}
+use Rattle.reduction.proofs.Loops.{put-all}
+use Rattle.reduction.proofs.Parts.{plus-from-length, plus-from-at}
+use native.Mathlib.Omega.{arith}
+use borrow.Author.Needs.{needs}
+use Rattle.reduction.proofs.put_plus.Statement.{statement}
+use Rattle.reduction.proofs.put_plus.Tie as tie
+
+abbrev from : ℕ → Action → List ℕ
+from k a = let l = identityPlus (qubits a) (matrix a) in drop k l ++ take k l
+
+abbrev Inv-loop : tie.InvT-loop
+Inv-loop k w₀ a m i₀ w i =
+    (i ≤ m) × (m ≡ qubits a + qubits a) × (m ≤ mostRows) × (length w ≡ length w₀) × (rowsIn w ≡ take i (from k a) ++ drop i (rowsIn w₀))
+
+abbrev μ-loop : tie.MeasureT-loop
+μ-loop k w₀ a m i₀ w i = m - i
+
+size : (c : tie.Start Inv-loop μ-loop) → length (matrix (c .args .t1)) ≡ qubits (c .args .t1) + qubits (c .args .t1)
+size c = matrix-length (c .args .t1) (search (needs, unmapped))
+
+rows-in-requires : tie.Need-rows-in-requires Inv-loop μ-loop
+rows-in-requires c κs = search needs
+
+loop-holds : tie.Need-loop-holds Inv-loop μ-loop
+loop-holds c =
+    let e = c .rows-in .ensures ∙ c .before .before .before .pre .1 in
+    (search needs, e, omega (arith, e, qubits-le (c .before .before .before .args .t1)), refl, refl)
+
+rotated-requires : tie.Need-rotated-requires Inv-loop μ-loop
+rotated-requires c κs = (search needs, omega (arith, c .before .loop .inv .1, c .before .before .before .before .before .pre .0), c .before .loop .inv .2)
+
+mul-sum : tie.Need-mul-sum Inv-loop μ-loop
+mul-sum c = omega (arith, c .before .rotated .ensures .0)
+
+element-copy-out-sum : tie.Need-element-copy-out-sum Inv-loop μ-loop
+element-copy-out-sum c = omega (arith, c .before .rotated .ensures .0)
+
+unit-requires : tie.Need-unit-requires Inv-loop μ-loop
+unit-requires c κs = search needs
+
+sum-requires : tie.Need-sum-requires Inv-loop μ-loop
+sum-requires c κs = search needs
+
+put-requires : tie.Need-put-requires Inv-loop μ-loop
+put-requires c κs = search needs
+
+add-i : tie.Need-add-i Inv-loop μ-loop
+add-i c = search needs
+
+loop-less : tie.Need-loop-less Inv-loop μ-loop
+loop-less c = search needs
+
+loop-again : tie.Need-loop-again Inv-loop μ-loop
+loop-again c =
+    let at = c .before .before .before .before .before .before .before .before .before .loop in
+    let s = c .before .before .before .before .before .before .before .before .before .before .before .before .before .args in
+    let a = s .t1 in
+    let o = c .before .before .before .before .before .before .before .rotated in
+    let j = o .result in
+    let h : j < qubits a + qubits a = omega (arith, o .ensures .0, at .inv .1) in (
+      search needs,
+      at .inv .1,
+      at .inv .2,
+      search needs,
+      c .before .before .put .ensures
+          ∙ over-next (from (s .k) a) (rowsIn (s .w .now)) (rowsIn (at .w)) (at .i) _ (omega (arith, plus-from-length (qubits a) (matrix a) (size (c .before .before .before .before .before .before .before .before .before .before .before .before .before)) (s .k), at .inv .1))
+          (omega (arith, at .inv .1, c .before .before .before .before .before .before .before .before .before .before .before .before .before .pre .1)) (at .inv .4)
+          (c .before .before .before .sum .ensures ∙ ap₂ _⊕_ (matrix-get a j h) (c .before .before .before .before .unit .ensures ∙ unit-is j (omega (arith, at .inv .2, o .ensures .0)))
+          ∙ plus-from-at (qubits a) (matrix a) (size (c .before .before .before .before .before .before .before .before .before .before .before .before .before)) (s .k) (at .i) j h (λ l e. o .ensures .1 l (e ∙ sym (at .inv .1)))),
+    )
+
+same-length : tie.Need-same-length Inv-loop μ-loop
+same-length c = search needs
+
+returns : tie.Need-returns Inv-loop μ-loop
+returns c =
+    let at = c .before .loop in
+    let s = c .before .before .before .before .before .args in
+    let a = s .t1 in
+    let long = plus-from-length (qubits a) (matrix a) (size (c .before .before .before .before .before)) (s .k) in
+    at .inv .4 ∙ put-all (from (s .k) a) (rowsIn (s .w .now)) (at .i) (long ∙ sym (c .before .before .before .before .before .pre .1)) (omega (arith, at .inv .1, c .before .before .before .before .before .pre .1))
+
+pub put-plus-spec : {M : Type 1} → statement M
+put-plus-spec =
+    tie.close
+    (tie.spec
+    Inv-loop
+    μ-loop
+    rows-in-requires
+    loop-holds
+    rotated-requires
+    mul-sum
+    element-copy-out-sum
+    unit-requires
+    sum-requires
+    put-requires
+    add-i
+    loop-less
+    loop-again
+    same-length
+    returns)

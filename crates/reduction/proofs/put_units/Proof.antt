@@ -1,0 +1,90 @@
+-- `put_units` puts the unit rows one by one, by `units-at`.
+-- Assumes nothing.
+use mathlib.Core.Path.{_≡_, refl, sym, ap, _∙_}
+use mathlib.Core.List.{List, _++_, map}
+use Prim.Native.Nat.{ℕ, _-_, _%_, _≤_, _<_}
+use lib.ListN.{length, take, drop, length-map}
+use Rattle.binar.specs.Rows.{rowBound}
+use Rattle.binar.proofs.Widths.{unit-kept}
+use Rattle.blocks.specs.Matrices.{units}
+use Rattle.blocks.specs.Words.{rowsIn}
+use Rattle.blocks.proofs.Lent.{over-next}
+use Rattle.blocks.proofs.Units.{units-length, units-at}
+use Rattle.blocks.proofs.Values.{map-get}
+use Rattle.reduction.proofs.Loops.{put-all}
+use native.Mathlib.Omega.{arith}
+use borrow.Author.Needs.{needs}
+use Rattle.reduction.proofs.put_units.Statement.{statement}
+use Rattle.reduction.proofs.put_units.Tie as tie
+
+-- the unit rows, as far as a row has columns
+abbrev kept : ℕ → List ℕ
+kept k = map (λ u. u % rowBound) (units k)
+
+kept-length : (k : ℕ) → length (kept k) ≡ k
+kept-length k = length-map (units k) (λ u. u % rowBound) ∙ units-length k
+
+abbrev Inv-loop : tie.InvT-loop
+Inv-loop t₀ k i₀ t i =
+    (i ≤ k) × (k ≡ length (rowsIn t₀)) × (length t ≡ length t₀) × (rowsIn t ≡ take i (kept k) ++ drop i (rowsIn t₀))
+
+abbrev μ-loop : tie.MeasureT-loop
+μ-loop t₀ k i₀ t i = k - i
+
+rows-in-requires : tie.Need-rows-in-requires Inv-loop μ-loop
+rows-in-requires c κs = search needs
+
+loop-holds : tie.Need-loop-holds Inv-loop μ-loop
+loop-holds c = (search needs, c .rows-in .ensures, refl, refl)
+
+unit-requires : tie.Need-unit-requires Inv-loop μ-loop
+unit-requires c κs = search needs
+
+put-requires : tie.Need-put-requires Inv-loop μ-loop
+put-requires c κs = search needs
+
+add-i : tie.Need-add-i Inv-loop μ-loop
+add-i c = search needs
+
+loop-less : tie.Need-loop-less Inv-loop μ-loop
+loop-less c = search needs
+
+loop-again : tie.Need-loop-again Inv-loop μ-loop
+loop-again c =
+    let at = c .before .before .before .before .before .before .loop in
+    let k = c .before .before .before .before .before .before .before .rows-in .result in
+    let out = rowsIn (c .before .before .before .before .before .before .before .before .before .before .args .t .now) in
+    let h : at .i < k = omega arith in (
+      search needs,
+      at .inv .1,
+      search needs,
+      c .before .before .put .ensures
+          ∙ over-next (kept k) out (rowsIn (at .t)) (at .i) _ (omega (arith, kept-length k)) (omega (arith, at .inv .1)) (at .inv .3)
+          (c .before .before .before .unit .ensures ∙ unit-kept (at .i)
+          ∙ sym (map-get (λ u. u % rowBound) (units k) (at .i) 0 0 (omega (arith, units-length k)) ∙ ap (λ u. u % rowBound) (units-at (at .i) k h))),
+    )
+
+same-length : tie.Need-same-length Inv-loop μ-loop
+same-length c = search needs
+
+returns : tie.Need-returns Inv-loop μ-loop
+returns c =
+    let at = c .before .loop in
+    let k = c .before .before .rows-in .result in
+    at .inv .3 ∙ put-all (kept k) (rowsIn (c .before .before .before .before .before .args .t .now)) (at .i) (kept-length k ∙ at .inv .1) (omega (arith, at .inv .1)) ∙ ap kept (at .inv .1)
+
+pub put-units-spec : {M : Type 1} → statement M
+put-units-spec =
+    tie.close
+    (tie.spec
+    Inv-loop
+    μ-loop
+    rows-in-requires
+    loop-holds
+    unit-requires
+    put-requires
+    add-i
+    loop-less
+    loop-again
+    same-length
+    returns)

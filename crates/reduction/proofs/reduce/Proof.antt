@@ -1,0 +1,57 @@
+-- `reduce` starts from the unit rows, by `begun`; what is left is the reduction, by `reduced-in`.
+-- Assumes nothing.
+use mathlib.Core.Path.{sym, ap, _∙_}
+use mathlib.Core.List.{map}
+use Prim.Native.Nat.{ℕ, _%_}
+use lib.ListN.{length, take, length-map}
+use Rattle.binar.specs.Rows.{rowBound}
+use Rattle.blocks.specs.Matrices.{units}
+use Rattle.blocks.specs.Words.{rowsIn}
+use Rattle.blocks.proofs.Units.{units-length}
+use Rattle.reduction.proofs.Cut.{begun, reduced-in}
+use Rattle.reduction.proofs.Words.{same-count}
+use native.Mathlib.Omega.{arith}
+use borrow.Author.Needs.{needs}
+use Rattle.reduction.proofs.reduce.Statement.{statement}
+use Rattle.reduction.proofs.reduce.Tie as tie
+
+put-units-requires : tie.Need-put-units-requires
+put-units-requires c κs = search needs
+
+by-columns-requires : tie.Need-by-columns-requires
+by-columns-requires c κs =
+    let k = length (rowsIn (c .before .before .before .before .before .before .before .before .before .before .args .t .now)) in
+    (c .before .before .before .before .before .before .before .before .before .before .pre .0 ∙ sym (ap length (c .before .before .before .before .before .put-units .ensures) ∙ length-map (units k) (λ u. u % rowBound) ∙ units-length k), c .before .before .before .before .before .before .before .before .before .before .pre .1)
+
+same-length : tie.Need-same-length
+same-length c = search needs
+
+same-length-2 : tie.Need-same-length-2
+same-length-2 c = search needs
+
+same-length-3 : tie.Need-same-length-3
+same-length-3 c = search needs
+
+returns : tie.Need-returns
+returns c =
+    let s = c .before .before .before .before .before .before .before .before .before .before .before .before .before .before .before .before .before .args in
+    let o = c .before .before .before .before .before .before .by-columns in
+    let a = o .last .1 .0 in
+    let t = o .last .1 .1 .0 in
+    let M = rowsIn (s .a .now) in
+    let even = c .before .before .before .before .before .before .before .before .before .before .before .before .before .before .before .before .before .pre .0 in
+    let begin = c .before .before .before .before .before .before .before .before .before .before .before .before .put-units .ensures ∙ ap (λ (k : ℕ). map (λ u. u % rowBound) (units k)) (sym even) in
+    let long = same-count a (s .a .now) (search needs) in
+    reduced-in (s .m) M (o .result) (take (o .result) (o .last .1 .1 .1 .0)) (rowsIn a) (rowsIn t) (long ∙ even ∙ sym (same-count t (s .t .now) (search needs)))
+    (o .ensures .1 ∙ begun (s .m) M (rowsIn (c .before .before .before .before .before .before .before .before .before .before .before .before .put-units .last .0)) begin) (omega (arith, long, o .ensures .0))
+
+pub reduce-spec : {M : Type 1} → statement M
+reduce-spec =
+    tie.close
+    (tie.spec
+    put-units-requires
+    by-columns-requires
+    same-length
+    same-length-2
+    same-length-3
+    returns)

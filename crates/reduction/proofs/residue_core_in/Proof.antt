@@ -1,0 +1,104 @@
+-- `residue_core_in` reduces the residue, by `residue-from`, and puts the front of what is left, by `basis-end` and `core-end`.
+-- Assumes nothing.
+use mathlib.Core.Path.{_≡_, sym, ap, _∙_}
+use mathlib.Core.List.{List, _++_}
+use Prim.Native.Nat.{ℕ, _+_}
+use lib.ListN.{length, take, drop}
+use Rattle.blocks.specs.Words.{rowsIn, over}
+use Rattle.blocks.proofs.Values.{unmapped}
+use Rattle.symplectic.specs.Actions.{qubits, matrix}
+use Rattle.symplectic.specs.Turns.{identityPlus}
+use Rattle.symplectic.proofs.Arrays.{qubits-le, matrix-length}
+use Rattle.reduction.specs.Residue.{residue}
+use Rattle.reduction.proofs.Parts.{residue-from, rank-in-rows, rank-in-transform, rank-wide, rank-end, basis-end, core-end}
+use Rattle.reduction.proofs.Words.{same-count}
+use native.Mathlib.Omega.{arith}
+use borrow.Author.Needs.{needs}
+use Rattle.reduction.proofs.residue_core_in.Statement.{statement}
+use Rattle.reduction.proofs.residue_core_in.Tie as tie
+
+size : (c : tie.Start) → length (matrix (c .args .a)) ≡ qubits (c .args .a) + qubits (c .args .a)
+size c = matrix-length (c .args .a) (search (needs, unmapped))
+
+-- the rows are those of the residue
+is : (c : tie.After-put-plus) → rowsIn (c .put-plus .last .1 .1 .0) ≡ residue (qubits (c .before .before .before .before .before .before .before .before .args .a)) (matrix (c .before .before .before .before .before .before .before .before .args .a))
+is c =
+    let a = c .before .before .before .before .before .before .before .before .args .a in
+    let l = identityPlus (qubits a) (matrix a) in
+    c .put-plus .ensures ∙ ap (λ (k : ℕ). drop k l ++ take k l) (c .before .before .qubits-of .ensures) ∙ residue-from (qubits a) (matrix a)
+
+qubits-of-requires : tie.Need-qubits-of-requires
+qubits-of-requires c κs = search needs
+
+put-plus-requires : tie.Need-put-plus-requires
+put-plus-requires c κs = search needs
+
+add-reduce : tie.Need-add-reduce
+add-reduce c = search needs
+
+reduce-requires : tie.Need-reduce-requires
+reduce-requires c κs =
+    let s = c .before .before .before .before .before .before .before .before .before .before .before .before .before .args in
+    let long = same-count (c .before .before .before .before .before .put-plus .last .1 .1 .0) (s .rows .now) (c .before .before .before .before .before .put-plus .kept .1 .1 .0) ∙ c .before .before .before .before .before .before .before .before .before .before .before .before .before .pre .0 in
+    (long ∙ sym (c .before .before .before .before .before .before .before .before .before .before .before .before .before .pre .1), omega (arith, long, c .before .before .before .before .before .before .before .before .before .before .before .before .before .pre .2))
+
+put-front-requires : tie.Need-put-front-requires
+put-front-requires c κs =
+    let n = c .before .before .before .before .before .before .before .before .before .before .before .before .before .before .before .before .qubits-of .result in
+    rank-in-rows (n + n) (c .before .before .before .before .before .before .before .before .reduce .result) _ _ _ _ (c .before .before .before .before .before .before .before .before .reduce .ensures)
+
+put-core-requires : tie.Need-put-core-requires
+put-core-requires c κs =
+    let a = c .before .before .before .before .before .before .before .before .before .before .before .before .before .before .before .before .before .before .before .before .before .before .before .before .before .before .before .before .args .a in
+    let n = c .before .before .before .before .before .before .before .before .before .before .before .before .before .before .before .before .before .before .before .before .before .before .qubits-of in
+    let r = c .before .before .before .before .before .before .before .before .before .before .before .before .before .before .reduce in (
+      rank-wide (n .result) (qubits a) (r .result) (matrix a) _ _ _ _ (size (c .before .before .before .before .before .before .before .before .before .before .before .before .before .before .before .before .before .before .before .before .before .before .before .before .before .before .before .before)) (qubits-le a) (n .ensures) (is (c .before .before .before .before .before .before .before .before .before .before .before .before .before .before .before .before .before .before .before .before)) (r .ensures),
+      rank-in-rows (n .result + n .result) (r .result) _ _ _ _ (r .ensures),
+      rank-in-transform (n .result + n .result) (r .result) _ _ _ _ (r .ensures),
+    )
+
+same-length : tie.Need-same-length
+same-length c = search needs
+
+same-length-2 : tie.Need-same-length-2
+same-length-2 c = search needs
+
+same-length-3 : tie.Need-same-length-3
+same-length-3 c = search needs
+
+same-length-4 : tie.Need-same-length-4
+same-length-4 c = search needs
+
+same-length-5 : tie.Need-same-length-5
+same-length-5 c = search needs
+
+returns : tie.Need-returns
+returns c =
+    let s = c .before .before .before .before .before .before .before .before .before .before .before .before .before .before .before .before .before .before .before .before .before .before .before .before .before .before .before .before .before .before .before .args in
+    let a = s .a in
+    let n = c .before .before .before .before .before .before .before .before .before .before .before .before .before .before .before .before .before .before .before .before .before .before .before .before .before .qubits-of in
+    let r = c .before .before .before .before .before .before .before .before .before .before .before .before .before .before .before .before .before .reduce in
+    let rank = rank-end (n .result) (qubits a) (r .result) (matrix a) _ _ _ _ (size (c .before .before .before .before .before .before .before .before .before .before .before .before .before .before .before .before .before .before .before .before .before .before .before .before .before .before .before .before .before .before .before)) (qubits-le a) (n .ensures) (is (c .before .before .before .before .before .before .before .before .before .before .before .before .before .before .before .before .before .before .before .before .before .before .before)) (r .ensures) in
+    let basis = basis-end (n .result) (qubits a) (r .result) (matrix a) _ _ _ _ (size (c .before .before .before .before .before .before .before .before .before .before .before .before .before .before .before .before .before .before .before .before .before .before .before .before .before .before .before .before .before .before .before)) (qubits-le a) (n .ensures) (is (c .before .before .before .before .before .before .before .before .before .before .before .before .before .before .before .before .before .before .before .before .before .before .before)) (r .ensures) in
+    let core = core-end (n .result) (qubits a) (r .result) (matrix a) _ _ _ _ (size (c .before .before .before .before .before .before .before .before .before .before .before .before .before .before .before .before .before .before .before .before .before .before .before .before .before .before .before .before .before .before .before)) (qubits-le a) (n .ensures) (is (c .before .before .before .before .before .before .before .before .before .before .before .before .before .before .before .before .before .before .before .before .before .before .before)) (r .ensures) in (
+      rank,
+      (c .before .before .before .before .before .before .before .before .put-front .ensures ∙ ap (λ (l : List ℕ). over l (rowsIn (s .basis .now))) basis,
+      c .before .before .put-core .ensures ∙ ap (λ (l : List ℕ). over l (rowsIn (s .core .now))) core),
+    )
+
+pub residue-core-in-spec : {M : Type 1} → statement M
+residue-core-in-spec =
+    tie.close
+    (tie.spec
+    qubits-of-requires
+    put-plus-requires
+    add-reduce
+    reduce-requires
+    put-front-requires
+    put-core-requires
+    same-length
+    same-length-2
+    same-length-3
+    same-length-4
+    same-length-5
+    returns)
