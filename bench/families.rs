@@ -5,8 +5,8 @@ use crate::{layers, ours};
 type Family = (&'static str, &'static [usize], fn(usize, u64) -> Vec<u64>);
 
 pub const FAMILIES: [Family; 4] = [
-    ("uniform", &[4, 8, 16, 32], layers::uniform),
+    ("uniform", &[2, 4, 8, 16, 32], layers::uniform),
     ("gates", &[8, 16, 32], |n, seed| ours::gate_rows(n, &layers::circuit(n, seed))),
-    ("swaps", &[8, 16, 32], |n, seed| ours::gate_rows(n, &layers::swaps(n, seed))),
+    ("swaps", &[2, 4, 8, 16, 32], |n, seed| ours::gate_rows(n, &layers::swaps(n, seed))),
     ("permuted", &[4, 6, 8, 12], layers::permuted),
 ];

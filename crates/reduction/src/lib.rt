@@ -151,7 +151,13 @@ fn put_block(b: Block, w: &mut [u64])
 }
 
 // A block's rows reduced in lent words.
-fn reduce_block(m: usize, matrix: Block, a: &mut [u64], t: &mut [u64], pivots: &mut [usize]) -> usize
+fn reduce_block(
+    m: usize,
+    matrix: Block,
+    a: &mut [u64],
+    t: &mut [u64],
+    pivots: &mut [usize],
+) -> usize
     requires { ⌜ (length (rowsIn (now a)) ≡ length (rowsOf matrix)) × (length (rowsIn (now t)) ≡ length (rowsOf matrix)) × (length (rowsOf matrix) ≤ length (now pivots)) ⌝ }
     ensures { λ r. ⌜ ReducedIn m (rowsOf matrix) r (rowsIn (now (a .exit))) (rowsIn (now (t .exit))) (take r (now (pivots .exit))) ⌝ }
 {
@@ -282,7 +288,14 @@ fn put_core(k: usize, rows: &[u64], transform: &[u64], out: &mut [u64])
 }
 
 // The residue reduced in the rows and the transform, then its basis and the core put over lent rows; answers the rank.
-fn residue_core_in(a: Action, rows: &mut [u64], transform: &mut [u64], pivots: &mut [usize], basis: &mut [u64], core: &mut [u64]) -> usize
+fn residue_core_in(
+    a: Action,
+    rows: &mut [u64],
+    transform: &mut [u64],
+    pivots: &mut [usize],
+    basis: &mut [u64],
+    core: &mut [u64],
+) -> usize
     requires { ⌜ (length (rowsIn (now rows)) ≡ qubits a + qubits a) × (length (rowsIn (now transform)) ≡ qubits a + qubits a) × (qubits a + qubits a ≤ length (now pivots)) ⌝ }
     ensures ranked { λ r. ⌜ r ≡ length (basisOf (qubits a) (matrix a)) ⌝ }
     ensures based { λ r. ⌜ rowsIn (now (basis .exit)) ≡ over (basisOf (qubits a) (matrix a)) (rowsIn (now (basis .entry))) ⌝ }
@@ -307,5 +320,12 @@ pub fn residue_core(a: Action, basis: &mut [u64], core: &mut [u64]) -> usize
     let mut pivots = [0; MOST_ROWS];
     let n = symplectic::qubits_of(a);
     let to = blocks::start(&rows, n + n);
-    residue_core_in(a, &mut rows[..to], &mut transform[..to], &mut pivots, basis, core)
+    residue_core_in(
+        a,
+        &mut rows[..to],
+        &mut transform[..to],
+        &mut pivots,
+        basis,
+        core,
+    )
 }

@@ -22,8 +22,8 @@ use Rattle.search.proofs.Grams.{gram-length, lent-length}
 use Rattle.search.proofs.Levels.{levels-step, levels-least, levels-behind, front-less, level-rows, back-front, found-back}
 use Rattle.search.proofs.Passing.{first-hit, rest-length, passed-rest, passed-gram}
 
--- the steps: rows passed on (₁), Gram rows shrunk, the draw kept (₂)
-pub record Steps (d : ℕ) (b₀ g₀ : List ℕ) (c g j : ℕ) (b₁ g₁ b₂ g₂ : List ℕ) : Type 0 where
+-- the steps: members passed on (b₁), the draw kept behind them (b₂), Gram rows passed on (g₂)
+pub record Steps (d : ℕ) (b₀ g₀ : List ℕ) (c g j : ℕ) (b₁ b₂ g₂ : List ℕ) : Type 0 where
   pub some : 0 < d
   pub fits : d ≤ width
   pub b-room : levels d ≤ length b₀
@@ -34,14 +34,12 @@ pub record Steps (d : ℕ) (b₀ g₀ : List ℕ) (c g j : ℕ) (b₁ g₁ b₂ 
   pub b₁-long : length b₁ ≡ length b₀
   pub b₁-front : take (d + d) b₁ ≡ take (d + d) b₀
   pub b₁-rows : j < d → (i : ℕ) → i < d - 1 → getD b₁ (d + d + i) 0 ≡ passedAt g j (take d b₀) i
-  pub g₁-front : take (d + d) g₁ ≡ take (d + d) g₀
-  pub g₁-rows : j < d → (i : ℕ) → i < d - 1 → getD g₁ (d + d + i) 0 ≡ passedAt g j (take d g₀) i
   pub b₂-is : b₂ ≡ set b₁ d c
   pub g₂-long : length g₂ ≡ length g₀
-  pub g₂-front : take (d + d) g₂ ≡ take (d + d) g₁
-  pub g₂-rows : (i : ℕ) → i < d - 1 → getD g₂ (d + d + i) 0 ≡ shrunk j g (getD g₁ (d + d + i) 0)
+  pub g₂-front : take (d + d) g₂ ≡ take (d + d) g₀
+  pub g₂-rows : j < d → (i : ℕ) → i < d - 1 → getD g₂ (d + d + i) 0 ≡ shrunk j g (passedAt g j (take d g₀) i)
 
-module _ (d : ℕ) (b₀ g₀ : List ℕ) (c g j : ℕ) (b₁ g₁ b₂ g₂ : List ℕ) (s : Steps d b₀ g₀ c g j b₁ g₁ b₂ g₂) where
+module _ (d : ℕ) (b₀ g₀ : List ℕ) (c g j : ℕ) (b₁ b₂ g₂ : List ℕ) (s : Steps d b₀ g₀ c g j b₁ b₂ g₂) where
   pub b₂-long : length b₂ ≡ length b₀
   b₂-long = ap length (s .b₂-is) ∙ length-set b₁ d c ∙ s .b₁-long
 
@@ -58,7 +56,7 @@ module _ (d : ℕ) (b₀ g₀ : List ℕ) (c g j : ℕ) (b₁ g₁ b₂ g₂ : L
       ∙ front-less d (d + d) b₁ b₀ (omega arith) (s .b₁-front)
 
   pub gram-kept : (ys : List ℕ) → take (d + d) (take (d + d) g₂ ++ ys) ≡ take (d + d) g₀
-  gram-kept ys = back-front (d + d) g₂ ys (omega (arith, behind-g)) (d + d) (le-refl (d + d)) ∙ s .g₂-front ∙ s .g₁-front
+  gram-kept ys = back-front (d + d) g₂ ys (omega (arith, behind-g)) (d + d) (le-refl (d + d)) ∙ s .g₂-front
 
   pub room-b : levels (d - 1) ≤ length (drop (d + d) b₂)
   room-b = omega (arith, length-drop (d + d) b₂, levels-step d (s .some), b₂-long, s .b-room)
@@ -92,7 +90,7 @@ module _ (d : ℕ) (b₀ g₀ : List ℕ) (c g j : ℕ) (b₁ g₁ b₂ g₂ : L
     child-gram =
         ap (gramOf E) child
         ∙ sym (level-rows (d - 1) (d + d) g₂ (gramOf E rest) behind-g (gram-length E rest (gramOf E rest) refl ∙ short)
-        (λ i l. s .g₂-rows i l ∙ ap (shrunk j g) (s .g₁-rows inside i l)
+        (λ i l. s .g₂-rows inside i l
         ∙ passed-gram d (s .fits) E (take d b₀) (take d g₀) size is c g j (s .sum) (s .on) (s .column) i l))
 
     -- what the search of the rest came to, and the draw before it

@@ -77,14 +77,13 @@ pub front-row : (d n : ℕ) (a b : List ℕ) → take n a ≡ take n b → d ≤
 front-row d n a b e h i l = front-get n a b e i (omega arith) ∙ sym (getD-take d b i 0 l)
 
 -- a row to be passed on, as it is read
-pub passed-is : (h j d : ℕ) (w w₀ : List ℕ) (m i : ℕ) → take (d + d) w ≡ take (d + d) w₀ → i + 1 < d → m ≡ getD (take d w₀) j 0
-    → (x y : ℕ) → x ≡ getD w i 0 → y ≡ getD w (i + 1) 0 → (before hit : Bool) → before ≡ ltb i j → hit ≡ bit (i + 1) h
-    → (v : ℕ) → v ≡ keptOr before x (y ⊕ select 0 hit m) → v ≡ passedAt h j (take d w₀) i
+pub passed-is : (h j d : ℕ) (w : List ℕ) (m i : ℕ) → i + 1 < d → m ≡ getD (take d w) j 0 → (x y : ℕ) → x ≡ getD w i 0 → y ≡ getD w (i + 1) 0
+    → (before hit : Bool) → before ≡ ltb i j → hit ≡ bit (i + 1) h → (v : ℕ) → v ≡ keptOr before x (y ⊕ select 0 hit m) → v ≡ passedAt h j (take d w) i
 unfolding passedAt
-passed-is h j d w w₀ m i front inside m-is x y x-is y-is before hit b-is h-is v v-is =
-    v-is ∙ ap₂ (λ a b. keptOr before a (b ⊕ select 0 hit m)) (x-is ∙ front-row d (d + d) w w₀ front (omega arith) i (omega arith)) (y-is ∙ front-row d (d + d) w w₀ front (omega arith) (i + 1) inside)
-    ∙ ap₂ (λ b t. keptOr b (getD (take d w₀) i 0) (getD (take d w₀) (i + 1) 0 ⊕ select 0 t m)) b-is h-is
-    ∙ ap (λ x. keptOr (ltb i j) (getD (take d w₀) i 0) (getD (take d w₀) (i + 1) 0 ⊕ select 0 (bit (i + 1) h) x)) m-is
+passed-is h j d w m i inside m-is x y x-is y-is before hit b-is h-is v v-is =
+    v-is ∙ ap₂ (λ a b. keptOr before a (b ⊕ select 0 hit m)) (x-is ∙ sym (getD-take d w i 0 (omega arith))) (y-is ∙ sym (getD-take d w (i + 1) 0 inside))
+    ∙ ap₂ (λ b t. keptOr b (getD (take d w) i 0) (getD (take d w) (i + 1) 0 ⊕ select 0 t m)) b-is h-is
+    ∙ ap (λ x. keptOr (ltb i j) (getD (take d w) i 0) (getD (take d w) (i + 1) 0 ⊕ select 0 (bit (i + 1) h) x)) m-is
 
 -- ---- one row more behind the front, each as its place says
 

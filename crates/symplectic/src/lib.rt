@@ -92,7 +92,6 @@ fn turned(u: Row, v: Row, s: Row) -> Row
     }
 }
 
-
 // Each row of words lent for work followed by the turn of v, on n qubits.
 pub fn follow(n: u64, w: &mut [u64], v: Row)
     ensures { λ _. ⌜ rowsIn (now (w .exit)) ≡ followedOf (cappedOf n) (rowsIn (now (w .entry))) (val v) ⌝ }
@@ -104,7 +103,6 @@ pub fn follow(n: u64, w: &mut [u64], v: Row)
         blocks::put(w, i, turned(u, v, s));
     }
 }
-
 
 // The identity on n qubits put into words lent for work, as far as they reach.
 pub fn put_identity(n: u64, w: &mut [u64])

@@ -65,7 +65,7 @@ fn pair_with(n: usize, w: &[u64], i: usize) -> Found
     requires { ⌜ (n ≤ maxQubits) × (length (rowsIn (now w)) ≡ n + n) × (i < n + n) ⌝ }
     ensures { λ r. ⌜ chosen r ≡ withFrom n (rowsIn (now (w .entry))) i (i + 1) ⌝ }
 {
-    let count = n + n;
+    let count = blocks::rows_in(w);
     let u = row_at(blocks::row(w, i), i);
     for j in i + 1..count {
         let v = row_at(blocks::row(w, j), j);

@@ -82,8 +82,10 @@ returns c =
     let basis = basis-end (n .result) (qubits a) (r .result) (matrix a) _ _ _ _ (size (c .before .before .before .before .before .before .before .before .before .before .before .before .before .before .before .before .before .before .before .before .before .before .before .before .before .before .before .before .before .before .before)) (qubits-le a) (n .ensures) (is (c .before .before .before .before .before .before .before .before .before .before .before .before .before .before .before .before .before .before .before .before .before .before .before)) (r .ensures) in
     let core = core-end (n .result) (qubits a) (r .result) (matrix a) _ _ _ _ (size (c .before .before .before .before .before .before .before .before .before .before .before .before .before .before .before .before .before .before .before .before .before .before .before .before .before .before .before .before .before .before .before)) (qubits-le a) (n .ensures) (is (c .before .before .before .before .before .before .before .before .before .before .before .before .before .before .before .before .before .before .before .before .before .before .before)) (r .ensures) in (
       rank,
-      (c .before .before .before .before .before .before .before .before .put-front .ensures ∙ ap (λ (l : List ℕ). over l (rowsIn (s .basis .now))) basis,
-      c .before .before .put-core .ensures ∙ ap (λ (l : List ℕ). over l (rowsIn (s .core .now))) core),
+      (
+        c .before .before .before .before .before .before .before .before .put-front .ensures ∙ ap (λ (l : List ℕ). over l (rowsIn (s .basis .now))) basis,
+        c .before .before .put-core .ensures ∙ ap (λ (l : List ℕ). over l (rowsIn (s .core .now))) core,
+      ),
     )
 
 pub residue-core-in-spec : {M : Type 1} → statement M

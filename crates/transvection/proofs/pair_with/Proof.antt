@@ -4,6 +4,7 @@ use mathlib.Core.Path.{_≡_, refl, sym, ap, ap₂, _∙_}
 use mathlib.Core.Bool.{Bool, true, false, not, Bool·beq}
 use mathlib.Core.Option.{some}
 use Prim.Native.Nat.{ℕ, _+_, _-_, _^_}
+use native.Mathlib.Omega.{arith}
 use Rattle.binar.specs.Bits.{_⊻_, _⊕_}
 use Rattle.binar.specs.Rows.{val}
 use Rattle.blocks.specs.Words.{rowsIn}
@@ -28,23 +29,23 @@ sum-of false true = refl
 sum-of false false = refl
 
 -- rows i and j of I + F
-row : (c : tie.After-row-at Inv-loop μ-loop) → val (c .row-at .result) ≡ rowAt (rowsIn (c .before .before .before .args .w .now)) (c .before .before .before .args .i)
-row c = c .row-at .ensures ∙ ap (λ (u : ℕ). u ⊕ 2 ^ c .before .before .before .args .i) (c .before .row .ensures)
+row : (c : tie.After-row-at Inv-loop μ-loop) → val (c .row-at .result) ≡ rowAt (rowsIn (c .before .before .before .before .args .w .now)) (c .before .before .before .before .args .i)
+row c = c .row-at .ensures ∙ ap (λ (u : ℕ). u ⊕ 2 ^ c .before .before .before .before .args .i) (c .before .row .ensures)
 
-row2 : (c : tie.After-row-at2 Inv-loop μ-loop) → val (c .row-at2 .result) ≡ rowAt (rowsIn (c .before .before .before .before .before .before .before .args .w .now)) (c .before .before .before .loop .j)
+row2 : (c : tie.After-row-at2 Inv-loop μ-loop) → val (c .row-at2 .result) ≡ rowAt (rowsIn (c .before .before .before .before .before .before .before .before .args .w .now)) (c .before .before .before .loop .j)
 row2 c = c .row-at2 .ensures ∙ ap (λ (u : ℕ). u ⊕ 2 ^ c .before .before .before .loop .j) (c .before .row2 .ensures)
 
 -- the code's test is that of the rule
 tested : (c : tie.After-meets2 Inv-loop μ-loop)
-    → differs (c .before .before .before .before .before .before .before .before .before .args .n) (rowsIn (c .before .before .before .before .before .before .before .before .before .args .w .now)) (c .before .before .before .before .before .before .before .before .before .args .i) (c .before .before .before .before .before .loop .j) ≡ not (Bool·beq (c .before .meets .result) (c .meets2 .result))
+    → differs (c .before .before .before .before .before .before .before .before .before .before .args .n) (rowsIn (c .before .before .before .before .before .before .before .before .before .before .args .w .now)) (c .before .before .before .before .before .before .before .before .before .before .args .i) (c .before .before .before .before .before .loop .j) ≡ not (Bool·beq (c .before .meets .result) (c .meets2 .result))
 tested c =
-    let s = c .before .before .before .before .before .before .before .before .before .args in
+    let s = c .before .before .before .before .before .before .before .before .before .before .args in
     let first = c .before .meets .ensures ∙ ap (λ (u : ℕ). pairing (s .n) u (2 ^ c .before .before .before .before .before .loop .j)) (row (c .before .before .before .before .before .before)) in
     let second = c .meets2 .ensures ∙ ap (λ (u : ℕ). pairing (s .n) u (2 ^ s .i)) (row2 (c .before .before)) in
     sym (ap₂ _⊻_ first second) ∙ sum-of (c .before .meets .result) (c .meets2 .result)
 
-add-count : tie.Need-add-count Inv-loop μ-loop
-add-count c = search needs
+rows-in-requires : tie.Need-rows-in-requires Inv-loop μ-loop
+rows-in-requires c κs = search needs
 
 row-requires : tie.Need-row-requires Inv-loop μ-loop
 row-requires c κs = search needs
@@ -76,10 +77,10 @@ sum-requires c κs = search needs
 returns : tie.Need-returns Inv-loop μ-loop
 returns c =
     let t = c .before .before in
-    let s = c .before .before .before .before .before .before .before .before .before .before .before in
+    let s = c .before .before .before .before .before .before .before .before .before .before .before .before in
     let at = c .before .before .before .before .before .before .before .loop in
     ap some (c .sum .ensures ∙ ap₂ _⊕_ (row (t .before .before .before .before .before .before)) (row2 (t .before .before)))
-    ∙ sym (with-here (s .args .n) (rowsIn (s .args .w .now)) (s .pre .1) (s .args .i) (at .j) (search needs) (search needs) (tested t ∙ c .before .if1 .taken))
+    ∙ sym (with-here (s .args .n) (rowsIn (s .args .w .now)) (s .pre .1) (s .args .i) (at .j) (search needs) (omega (arith, c .before .before .before .before .before .before .before .before .before .before .rows-in .ensures, s .pre .1)) (tested t ∙ c .before .if1 .taken))
     ∙ at .inv
 
 add-j-2 : tie.Need-add-j-2 Inv-loop μ-loop
@@ -90,13 +91,13 @@ loop-less c = search needs
 
 loop-again : tie.Need-loop-again Inv-loop μ-loop
 loop-again c =
-    let s = c .before .before .before .before .before .before .before .before .before .before in
+    let s = c .before .before .before .before .before .before .before .before .before .before .before in
     let at = c .before .before .before .before .before .before .loop in
     sym (with-skip (s .args .n) (rowsIn (s .args .w .now)) (s .pre .1) (s .args .i) (at .j) (search needs) (search needs) (tested (c .before) ∙ c .if1 .left)) ∙ at .inv
 
 returns-2 : tie.Need-returns-2 Inv-loop μ-loop
 returns-2 c =
-    let s = c .before .before .before .before .before in
+    let s = c .before .before .before .before .before .before in
     let at = c .before .loop in
     sym (with-end (s .args .n) (rowsIn (s .args .w .now)) (s .pre .1) (s .args .i) (at .j) (search needs)) ∙ at .inv
 
@@ -106,7 +107,7 @@ pair-with-spec =
     (tie.spec
     Inv-loop
     μ-loop
-    add-count
+    rows-in-requires
     row-requires
     row-at-requires
     add-j

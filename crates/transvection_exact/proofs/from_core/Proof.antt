@@ -88,9 +88,9 @@ returns-2 c =
     let n = c .before .before .before .before .before .before .rows-in .ensures in
     let few = rows-few start in
     let list : rowsIn (take (c .before .before .before .before .before .start .result) (o .last .1 .1 .0)) ≡ basisFound _ =
-        lent-front (c .before .before .before .before .before .before .rows-in .result) (c .before .before .before .before .before .start .result) (o .last .1 .1 .0) (c .before .before .before .before .before .start .ensures)
-        ∙ ap₂ take (n ∙ sym (found-size (qubits (s .a)) (matrix (s .a)) (size start) (qubits-le (s .a)) (s .budget) (s .out .now) (s .core .now) (pre .1) (o .result) (o .ensures .0) told)) (o .ensures .1 ∙ ap (λ v. over (basisFound v) zeros) (same-verdict (qubits (s .a)) (matrix (s .a)) (size start) (qubits-le (s .a)) (s .budget) (s .out .now) (s .core .now) (pre .1) (o .result) (o .ensures .0)))
-        ∙ over-front _ zeros (omega (arith, found-size (qubits (s .a)) (matrix (s .a)) (size start) (qubits-le (s .a)) (s .budget) (s .out .now) (s .core .now) (pre .1) (o .result) (o .ensures .0) told, room-in width (length (rowsIn (s .core .now))) few)) in
+    lent-front (c .before .before .before .before .before .before .rows-in .result) (c .before .before .before .before .before .start .result) (o .last .1 .1 .0) (c .before .before .before .before .before .start .ensures)
+    ∙ ap₂ take (n ∙ sym (found-size (qubits (s .a)) (matrix (s .a)) (size start) (qubits-le (s .a)) (s .budget) (s .out .now) (s .core .now) (pre .1) (o .result) (o .ensures .0) told)) (o .ensures .1 ∙ ap (λ v. over (basisFound v) zeros) (same-verdict (qubits (s .a)) (matrix (s .a)) (size start) (qubits-le (s .a)) (s .budget) (s .out .now) (s .core .now) (pre .1) (o .result) (o .ensures .0)))
+    ∙ over-front _ zeros (omega (arith, found-size (qubits (s .a)) (matrix (s .a)) (size start) (qubits-le (s .a)) (s .budget) (s .out .now) (s .core .now) (pre .1) (o .result) (o .ensures .0) told, room-in width (length (rowsIn (s .core .now))) few)) in
     let vs = matmul (rowsIn (take (c .before .before .before .before .before .start .result) (o .last .1 .1 .0))) (rowsIn (s .basis .now)) in
     let w = searched-found (qubits (s .a)) (matrix (s .a)) (size start) (qubits-le (s .a)) (s .budget) (s .out .now) (s .core .now) (pre .1) (o .result) (o .ensures .0) vs told (ap₂ matmul list (pre .0)) in
     (e .0 ∙ sym (ap (λ (x : Reply). x .figures) w), e .1 ∙ ap (λ (m : ℕ). laid m vs (s .out .now)) q ∙ sym (ap (λ (x : Reply). x .words) w))

@@ -30,7 +30,6 @@ use Rattle.blocks.proofs.row.Reads as row-reads
 use Rattle.blocks.proofs.start.Reads as start-reads
 use Rattle.search.proofs.is_alternating.Reads as is-alternating-reads
 use Rattle.search.proofs.pass.Reads as pass-reads
-use Rattle.search.proofs.shrink.Reads as shrink-reads
 use Rattle.search.proofs.sums.Reads as sums-reads
 
 -- the dimension falls; a space is above its draws
@@ -55,7 +54,7 @@ try-space-below t =
     and 2 try-space-kinds.ps (falls 2 try-space-kinds.ps _<_ μ-try-space t) try-space.Pre
 
 abbrev pub draw-claims : ℕ → try-draw-lts.Claims
-draw-claims t = (lowest-reads.Asked, lowest-reads.Learnt, pass-reads.Asked, pass-reads.Learnt, shrink-reads.Asked, shrink-reads.Learnt, put-reads.Asked, put-reads.Learnt, start-reads.Asked, start-reads.Learnt, try-space-below t, try-space.Post)
+draw-claims t = (lowest-reads.Asked, lowest-reads.Learnt, pass-reads.Asked, pass-reads.Learnt, put-reads.Asked, put-reads.Learnt, start-reads.Asked, start-reads.Learnt, try-space-below t, try-space.Post)
 
 abbrev pub space-claims : ℕ → try-space-lts.Claims
 space-claims t = (
