@@ -100,6 +100,18 @@ put-next at P w i v inside before is n h = ⊎-elim here there (eq-or-lt-of-le (
     there : n < i → getD (set w (at + i) v) (at + n) 0 ≡ P n
     there l = getD-set-other w (at + i) (at + n) v 0 (λ q. omega arith) ∙ before n l
 
+-- rows w, of which i stand behind a level of w₀ as P says, where Q holds
+abbrev pub Behind : Type 0 → (ℕ → ℕ) → ℕ → List ℕ → List ℕ → ℕ → Type 0
+Behind Q P d w₀ w i = (length w ≡ length w₀) × (take (d + d) w ≡ take (d + d) w₀) × (Q → (n : ℕ) → n < i → getD w (d + d + n) 0 ≡ P n)
+
+pub behind-next : (Q : Type 0) (P : ℕ → ℕ) (d : ℕ) (w₀ w w' : List ℕ) (i v : ℕ) → Behind Q P d w₀ w i → d + d + i < length w₀ → w' ≡ set w (d + d + i) v → (Q → v ≡ P i)
+    → Behind Q P d w₀ w' (i + 1)
+behind-next Q P d w₀ w w' i v b inside put is = (
+  ap length put ∙ length-set w (d + d + i) v ∙ b .0,
+  ap (take (d + d)) put ∙ take-set-le (d + d) w (d + d + i) v (omega arith) ∙ b .1,
+  λ q n h. ap (λ x. getD x (d + d + n) 0) put ∙ put-next (d + d) P w i v (omega (arith, b .0)) (b .2 q) (is q) n h,
+)
+
 -- the rows from n on, each given by its place
 pub level-rows : (k n : ℕ) (w L : List ℕ) → n + k ≤ length w → length L ≡ k → ((i : ℕ) → i < k → getD w (n + i) 0 ≡ getD L i 0) → take k (drop n w) ≡ L
 level-rows k n w L long size rows = ext-getD 0 (take k (drop n w)) L (count ∙ sym size) (λ i l. let g : i < k = omega (arith, count) in getD-take k (drop n w) i 0 g ∙ getD-drop n w i 0 ∙ rows i g)

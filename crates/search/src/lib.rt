@@ -20,7 +20,7 @@ ghost use Rattle.triangular.specs.Spaces.{complement, isAlternating};
 ghost use Rattle.triangular.specs.Search.{failed, afterRest, search, budgeted};
 ghost use Rattle.triangular.specs.Readings.{coreIn, basisFound};
 ghost use Rattle.search.specs.Endings.{verdictOf};
-ghost use Rattle.search.specs.inner.Levels.{levels, foundIn, keptOr, passedAt, gramOf, shrunkIf};
+ghost use Rattle.search.specs.inner.Levels.{levels, foundIn, keptOr, passedAt, gramOf, shrunk as shrunkOf};
 
 pub enum Ending {
     Found,
@@ -95,34 +95,39 @@ fn less(i: usize, j: usize) -> bool
     i < j
 }
 
-// A row of what is passed on: of the Gram matrix column j, added to those of h, is dropped as well.
-fn shrunk(x: Row, h: Row, j: usize, gram: bool) -> Row
-    ensures { λ r. ⌜ val r ≡ shrunkIf gram j (val h) (val x) ⌝ }
+// A Gram row once member j has been added to those of h and dropped: so are the columns.
+fn shrunk(x: Row, h: Row, j: usize) -> Row
+    ensures { λ r. ⌜ val r ≡ shrunkOf j (val h) (val x) ⌝ }
 {
-    if !gram {
-        return x;
-    }
     let y = added(x, h, binar::bit(x, j));
     let low = binar::low(y, j);
     binar::sum(low, binar::shift_down(binar::sum(y, low), 1))
 }
 
-// Row j is dropped and added to each later row of h; what is passed on is put behind the level.
-fn pass(w: &mut [u64], d: usize, h: Row, j: usize, gram: bool)
-    requires { ⌜ (0 < d) × (d ≤ width) × (d + d + (d - 1) ≤ length (rowsIn (now w))) ⌝ }
-    ensures { λ _. ⌜ (take (d + d) (rowsIn (now (w .exit))) ≡ take (d + d) (rowsIn (now (w .entry))))
-        × (j < d → (i : ℕ) → i < d - 1 → getD (rowsIn (now (w .exit))) (d + d + i) 0 ≡ shrunkIf gram j (val h) (passedAt (val h) j (take d (rowsIn (now (w .entry)))) i)) ⌝ }
+// Member j is dropped and added to each later one of h, and the Gram rows and columns with it; what is passed on is put behind the level.
+fn pass(basis: &mut [u64], gram: &mut [u64], d: usize, h: Row, j: usize)
+    requires { ⌜ (0 < d) × (d ≤ width) × (d + d + (d - 1) ≤ length (rowsIn (now basis))) × (d + d + (d - 1) ≤ length (rowsIn (now gram))) ⌝ }
+    ensures { λ _. ⌜ (take (d + d) (rowsIn (now (basis .exit))) ≡ take (d + d) (rowsIn (now (basis .entry))))
+        × (take (d + d) (rowsIn (now (gram .exit))) ≡ take (d + d) (rowsIn (now (gram .entry))))
+        × (j < d → (i : ℕ) → i < d - 1 → getD (rowsIn (now (basis .exit))) (d + d + i) 0 ≡ passedAt (val h) j (take d (rowsIn (now (basis .entry)))) i)
+        × (j < d → (i : ℕ) → i < d - 1 → getD (rowsIn (now (gram .exit))) (d + d + i) 0 ≡ shrunkOf j (val h) (passedAt (val h) j (take d (rowsIn (now (gram .entry)))) i)) ⌝ }
 {
     let to = d + d;
     let last = d - 1;
-    let m = blocks::row(w, j);
-    let mut x = blocks::row(w, 0);
+    let m = blocks::row(basis, j);
+    let g = blocks::row(gram, j);
+    let mut x = blocks::row(basis, 0);
+    let mut y = blocks::row(gram, 0);
     for i in 0..last {
         let n = i + 1;
-        let y = blocks::row(w, n);
-        let v = passed(x, y, m, less(i, j), binar::bit(h, n));
-        blocks::put(w, to + i, shrunk(v, h, j, gram));
-        x = y;
+        let before = less(i, j);
+        let hit = binar::bit(h, n);
+        let u = blocks::row(basis, n);
+        let v = blocks::row(gram, n);
+        blocks::put(basis, to + i, passed(x, u, m, before, hit));
+        blocks::put(gram, to + i, shrunk(passed(y, v, g, before, hit), h, j));
+        x = u;
+        y = v;
     }
 }
 
@@ -145,8 +150,7 @@ fn try_draw(
         ≡ budgeted budget (afterRest p failed (search (form E) (d - 1) (complement (form E p) (take d (rowsIn (now (basis .entry))))) looks)))) ⌝ }
 {
     let j = binar::lowest(g);
-    pass(basis, d, g, j, false);
-    pass(gram, d, g, j, true);
+    pass(basis, gram, d, g, j);
     blocks::put(basis, d, c);
     let b = blocks::start(&basis[..], d + d);
     let s = blocks::start(&gram[..], d + d);

@@ -13,7 +13,7 @@ use Rattle.search.proofs.+try_draw+try_space.Lts-try_space as try-space
 use Rattle.search.proofs.+try_draw+try_space.{statement}
 use Rattle.search.proofs.+try_draw+try_space.Tie.{close}
 use Rattle.search.proofs.+try_draw+try_space.Proof.Claims.{μ-try-draw, μ-try-space, try-draw-at, try-space-at, draw-claims, space-claims, try-space-Inv-loop, try-space-μ-loop}
-use Rattle.search.proofs.+try_draw+try_space.Proof.Drawn.{try-draw-pass-requires, try-draw-pass-requires-2, try-draw-part-try-space-start, try-draw-part-try-space-start-2, try-draw-try-space-requires, try-draw-returns}
+use Rattle.search.proofs.+try_draw+try_space.Proof.Drawn.{try-draw-pass-requires, try-draw-part-try-space-start, try-draw-part-try-space-start-2, try-draw-try-space-requires, try-draw-returns}
 use Rattle.search.proofs.+try_draw+try_space.Proof.Places.{try-space-returns, try-space-is-alternating-requires, try-space-returns-2, try-space-sums-requires, try-space-loop-holds, try-space-returns-5, try-space-returns-3, try-space-add-row}
 use Rattle.search.proofs.+try_draw+try_space.Proof.Turns.{try-space-try-draw-requires, try-space-loop-again, try-space-returns-4, try-space-loop-again-2, try-space-loop-less, try-space-loop-less-2}
 
@@ -119,7 +119,6 @@ pub +try-draw+try-space-spec : {M : Type 1} → statement M
     try-draw.Post
     (try-draw-lowest-requires t)
     (try-draw-pass-requires t)
-    (try-draw-pass-requires-2 t)
     (try-draw-put-requires t)
     (try-draw-add-start t)
     (try-draw-start-requires t)

@@ -1,20 +1,13 @@
 -- `shrunk` takes the steps of its definition.
 -- Assumes nothing.
-use mathlib.Core.Path.{_≡_, sym, ap, ap₂, _∙_}
-use mathlib.Core.Bool.{Bool, true, false}
+use mathlib.Core.Path.{_≡_, ap, ap₂, _∙_}
 use Prim.Native.Nat.{_/_, _^_}
-use borrow.Author.Tests.{not-true, not-false}
 use Rattle.binar.specs.Bits.{select, _⊕_}
 use Rattle.binar.specs.Rows.{val}
-use Rattle.search.specs.inner.Levels.{withoutColumn, shrunk, shrunkIf}
+use Rattle.search.specs.inner.Levels.{withoutColumn, shrunk}
 use borrow.Author.Needs.{needs}
 use Rattle.search.proofs.shrunk.Statement.{statement}
 use Rattle.search.proofs.shrunk.Tie as tie
-
-returns : tie.Need-returns
-returns c =
-    let s = c .before .args in
-    ap (λ b. shrunkIf b (s .j) (val (s .h)) (val (s .x))) (sym (not-true (s .gram) (c .if1 .taken)))
 
 bit-requires : tie.Need-bit-requires
 bit-requires c κs = search needs
@@ -34,24 +27,23 @@ shift-down-requires c κs = search needs
 sum-requires-2 : tie.Need-sum-requires-2
 sum-requires-2 c κs = search needs
 
-returns-2 : tie.Need-returns-2
+returns : tie.Need-returns
 unfolding shrunk withoutColumn
-returns-2 c =
-    let s = c .before .before .before .before .before .before .before .args in
+returns c =
+    let s = c .before .before .before .before .before .before .args in
     let y : val (c .before .before .before .before .added .result) ≡ _ = c .before .before .before .before .added .ensures ∙ ap (λ b. val (s .x) ⊕ select 0 b (val (s .h))) (c .before .before .before .before .before .bit .ensures) in
     c .sum2 .ensures
     ∙ ap₂ _⊕_ (c .before .before .before .low .ensures) (c .before .shift-down .ensures ∙ ap (λ t. t / 2 ^ 1) (c .before .before .sum .ensures ∙ ap (λ t. val (c .before .before .before .before .added .result) ⊕ t) (c .before .before .before .low .ensures)))
-    ∙ ap (withoutColumn (s .j)) y ∙ ap (λ b. shrunkIf b (s .j) (val (s .h)) (val (s .x))) (sym (not-false (s .gram) (c .before .before .before .before .before .before .if1 .left)))
+    ∙ ap (withoutColumn (s .j)) y
 
 pub shrunk-spec : {M : Type 1} → statement M
 shrunk-spec =
     tie.close
     (tie.spec
-    returns
     bit-requires
     added-requires
     low-requires
     sum-requires
     shift-down-requires
     sum-requires-2
-    returns-2)
+    returns)

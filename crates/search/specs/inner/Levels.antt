@@ -40,8 +40,3 @@ withoutColumn j y = y % 2 ^ j ⊕ (y ⊕ y % 2 ^ j) / 2 ^ 1
 -- column j is added to those of h and dropped
 unfoldable pub shrunk : ℕ → ℕ → ℕ → ℕ
 shrunk j h x = withoutColumn j (x ⊕ select 0 (bit j x) h)
-
--- of a Gram matrix, not of members
-abbrev pub shrunkIf : Bool → ℕ → ℕ → ℕ → ℕ
-shrunkIf true j h x = shrunk j h x
-shrunkIf false j h x = x

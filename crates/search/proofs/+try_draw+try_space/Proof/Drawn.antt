@@ -22,7 +22,7 @@ use Rattle.search.proofs.+try_draw+try_space.Proof.Claims.{try-draw-at,
 -- where both starts are known
 module _ (t : ℕ) (c : try-draw-lts.After-start2 (draw-claims t) (try-draw-at t) try-draw.Post) where
   abbrev from : try-draw-lts.Start (draw-claims t) (try-draw-at t) try-draw.Post
-  from = c .before .before .before .before .before .before .before .before .before .before .before .before .before .before .before .before .before .before .before
+  from = c .before .before .before .before .before .before .before .before .before .before .before .before .before .before .before .before .before .before
 
   abbrev d : ℕ
   d = from .args .d
@@ -32,10 +32,10 @@ module _ (t : ℕ) (c : try-draw-lts.After-start2 (draw-claims t) (try-draw-at t
   members = c .before .before .before .before .before .before .put .last .0
 
   abbrev gram : List ℕ
-  gram = c .before .before .before .before .before .before .before .before .before .before .pass2 .last .0
+  gram = c .before .before .before .before .before .before .before .before .before .before .before .before .pass .last .1 .0
 
-  pub steps : Steps d (rowsIn (from .args .basis .now)) (rowsIn (from .args .gram .now)) (val (from .args .c)) (val (from .args .g)) (c .before .before .before .before .before .before .before .before .before .before .before .before .before .before .before .before .lowest .result)
-      (rowsIn (c .before .before .before .before .before .before .before .before .before .before .before .before .before .before .pass .last .0)) (rowsIn members) (rowsIn gram)
+  pub steps : Steps d (rowsIn (from .args .basis .now)) (rowsIn (from .args .gram .now)) (val (from .args .c)) (val (from .args .g)) (c .before .before .before .before .before .before .before .before .before .before .before .before .before .before .before .lowest .result)
+      (rowsIn (c .before .before .before .before .before .before .before .before .before .before .before .before .pass .last .0)) (rowsIn members) (rowsIn gram)
   steps = record {
     some = from .pre .1 .0;
     fits = from .pre .1 .1;
@@ -43,14 +43,14 @@ module _ (t : ℕ) (c : try-draw-lts.After-start2 (draw-claims t) (try-draw-at t
     g-room = from .pre .1 .3;
     sum = from .pre .1 .5;
     on = from .pre .1 .6;
-    column = c .before .before .before .before .before .before .before .before .before .before .before .before .before .before .before .before .lowest .ensures;
-    b₁-long = lent-same (c .before .before .before .before .before .before .before .before .before .before .before .before .before .before .pass .last .0) (from .args .basis .now) (search needs);
-    b₁-front = c .before .before .before .before .before .before .before .before .before .before .before .before .before .before .pass .ensures .0;
-    b₁-rows = c .before .before .before .before .before .before .before .before .before .before .before .before .before .before .pass .ensures .1;
+    column = c .before .before .before .before .before .before .before .before .before .before .before .before .before .before .before .lowest .ensures;
+    b₁-long = lent-same (c .before .before .before .before .before .before .before .before .before .before .before .before .pass .last .0) (from .args .basis .now) (search needs);
+    b₁-front = c .before .before .before .before .before .before .before .before .before .before .before .before .pass .ensures .0;
+    b₁-rows = c .before .before .before .before .before .before .before .before .before .before .before .before .pass .ensures .2;
     b₂-is = c .before .before .before .before .before .before .put .ensures;
     g₂-long = lent-same gram (from .args .gram .now) (search needs);
-    g₂-front = c .before .before .before .before .before .before .before .before .before .before .pass2 .ensures .0;
-    g₂-rows = c .before .before .before .before .before .before .before .before .before .before .pass2 .ensures .1;
+    g₂-front = c .before .before .before .before .before .before .before .before .before .before .before .before .pass .ensures .1;
+    g₂-rows = c .before .before .before .before .before .before .before .before .before .before .before .before .pass .ensures .3;
   }
 
   -- the rows behind
@@ -62,23 +62,19 @@ module _ (t : ℕ) (c : try-draw-lts.After-start2 (draw-claims t) (try-draw-at t
 
 pub try-draw-pass-requires : (t : ℕ) → try-draw-lts.Need-pass-requires (draw-claims t) (try-draw-at t) try-draw.Post
 try-draw-pass-requires t c κs =
-    let s = c .before .before .before .before in
-    (s .pre .1 .0, s .pre .1 .1, omega (arith, levels-behind (s .args .d) (s .pre .1 .0), s .pre .1 .2))
-
-pub try-draw-pass-requires-2 : (t : ℕ) → try-draw-lts.Need-pass-requires-2 (draw-claims t) (try-draw-at t) try-draw.Post
-try-draw-pass-requires-2 t c κs =
-    let s = c .before .before .before .before .before .before .before .before in
-    (s .pre .1 .0, s .pre .1 .1, omega (arith, levels-behind (s .args .d) (s .pre .1 .0), s .pre .1 .3))
+    let s = c .before .before .before .before .before in
+    let room = levels-behind (s .args .d) (s .pre .1 .0) in
+    (s .pre .1 .0, s .pre .1 .1, omega (arith, room, s .pre .1 .2), omega (arith, room, s .pre .1 .3))
 
 pub try-draw-part-try-space-start : (t : ℕ) → try-draw-lts.Need-part-try-space-start (draw-claims t) (try-draw-at t) try-draw.Post
-try-draw-part-try-space-start t c = lent-within (c .before .before .before .before .before .before .before .before .before .before .before .before .before .before .before .before .before .before .before .args .d + c .before .before .before .before .before .before .before .before .before .before .before .before .before .before .before .before .before .before .before .args .d) (c .before .before .start .result) (members t c) (c .before .before .start .ensures)
+try-draw-part-try-space-start t c = lent-within (c .before .before .before .before .before .before .before .before .before .before .before .before .before .before .before .before .before .before .args .d + c .before .before .before .before .before .before .before .before .before .before .before .before .before .before .before .before .before .before .args .d) (c .before .before .start .result) (members t c) (c .before .before .start .ensures)
 
 pub try-draw-part-try-space-start-2 : (t : ℕ) → try-draw-lts.Need-part-try-space-start-2 (draw-claims t) (try-draw-at t) try-draw.Post
-try-draw-part-try-space-start-2 t c = lent-within (c .before .before .before .before .before .before .before .before .before .before .before .before .before .before .before .before .before .before .before .before .args .d + c .before .before .before .before .before .before .before .before .before .before .before .before .before .before .before .before .before .before .before .before .args .d) (c .before .start2 .result) (gram t (c .before)) (c .before .start2 .ensures)
+try-draw-part-try-space-start-2 t c = lent-within (c .before .before .before .before .before .before .before .before .before .before .before .before .before .before .before .before .before .before .before .args .d + c .before .before .before .before .before .before .before .before .before .before .before .before .before .before .before .before .before .before .before .args .d) (c .before .start2 .result) (gram t (c .before)) (c .before .start2 .ensures)
 
 pub try-draw-try-space-requires : (t : ℕ) → try-draw-lts.Need-try-space-requires (draw-claims t) (try-draw-at t) try-draw.Post
 try-draw-try-space-requires t c κs =
-    let s = c .before .before .before .before .before .before .before .before .before .before .before .before .before .before .before .before .before .before .before .before .before in
+    let s = c .before .before .before .before .before .before .before .before .before .before .before .before .before .before .before .before .before .before .before .before in
     let at = c .before .before in
     let p = steps t at in
     let pos = s .pre .1 .0 in (
@@ -94,7 +90,7 @@ try-draw-try-space-requires t c κs =
 pub try-draw-returns : (t : ℕ) → try-draw-lts.Need-returns (draw-claims t) (try-draw-at t) try-draw.Post
 try-draw-returns t c =
     let at = c .before .before .before .before .before .before .before in
-    let s = c .before .before .before .before .before .before .before .before .before .before .before .before .before .before .before .before .before .before .before .before .before .before .before .before .before .before .args in
+    let s = c .before .before .before .before .before .before .before .before .before .before .before .before .before .before .before .before .before .before .before .before .before .before .before .before .before .args in
     let p = steps t at in
     let a = c .before .before .before .before .try-space in
     let k = s .d + s .d in
