@@ -5,8 +5,8 @@ use mathlib.Core.List.{List, [], _∷_, _++_, append-nil}
 use Prim.Native.Nat.{ℕ, zero, suc, _+_, _-_, _≤_, _<_, min}
 use native.Mathlib.Nat.{le-refl}
 use native.Mathlib.Omega.{arith}
-use lib.ListN.{length, getD, set, take, drop, length-set, length-append, length-drop, length-take, drop-of-length-le}
-use lib.Seq.{take-all, take-at, length-take-le}
+use lib.ListN.{length, getD, set, take, drop, length-append, length-drop, length-take, drop-of-length-le}
+use lib.Seq.{take-all, take-at}
 use Rattle.blocks.specs.Words.{rowsOfWords, rowsIn, wordsFor, over}
 use Rattle.blocks.proofs.Values.{take-counted, laid-more}
 
@@ -82,10 +82,6 @@ over-front rows out h =
 pub over-nil : (out : List ℕ) → over [] out ≡ out
 unfolding over
 over-nil out = take-all (length out) out (le-refl (length out))
-
--- none so far, one more, and all of them or as many as there is room for
-pub over-none : (rows out : List ℕ) → out ≡ take 0 rows ++ drop 0 out
-over-none rows out = refl
 
 pub over-next : (rows out x : List ℕ) (i v : ℕ) → i < length rows → i < length out → x ≡ take i rows ++ drop i out → v ≡ getD rows i 0
     → set x i v ≡ take (i + 1) rows ++ drop (i + 1) out

@@ -3,7 +3,7 @@
 use mathlib.Core.Path.{_≡_, refl, sym, ap, ap₂, _∙_, fun-ext}
 use mathlib.Core.List.{List, [], _∷_, _++_, map, map-map, map-append}
 use Prim.Native.Nat.{ℕ, zero, suc, _+_, _*_, _^_, _≤_, _<_}
-use native.Mathlib.Nat.{pow-suc, mul-one, one-mul, mul-assoc, zero-add, suc-add, le-of-suc-le-suc, not-suc-le-zero}
+use native.Mathlib.Nat.{pow-suc, mul-one, mul-assoc, zero-add, suc-add, le-of-suc-le-suc, not-suc-le-zero}
 use native.Mathlib.Omega.{arith}
 use lib.Pow.{pow-pos}
 use lib.ListN.{length, getD, take, length-map, List·getD-map}
@@ -47,11 +47,6 @@ units-split (suc n) k =
     ap units (suc-add n k)
     ∙ ap (λ l. 1 ∷ l) (ap (map (λ u. u * 2)) (units-split n k) ∙ map-append (λ u. u * 2) (units n) (map (λ u. u * 2 ^ n) (units k))
     ∙ ap (λ l. map (λ u. u * 2) (units n) ++ l) (map-map (λ u. u * 2) (λ u. u * 2 ^ n) (units k) ∙ ap (λ f. map f (units k)) (fun-ext (λ u. mul-assoc u (2 ^ n) 2 ∙ ap (λ t. u * t) (sym (pow-suc 2 n))))))
-
--- one unit more, at the end
-pub units-snoc : (m : ℕ) → units (m + 1) ≡ units m ++ (2 ^ m ∷ [])
-unfolding units
-units-snoc m = units-split m 1 ∙ ap (λ t. units m ++ (t ∷ [])) (one-mul (2 ^ m))
 
 pub times-units : (M : List ℕ) → map (λ u. times u M) (units (length M)) ≡ M
 unfolding units

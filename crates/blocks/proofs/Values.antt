@@ -1,26 +1,22 @@
--- The values of rows in a list; the rows of a block read, written, pushed, taken out and exchanged; rows laid into lent words.
+-- The values of rows in a list; the rows of a block read and written, a member taken out; rows laid into lent words.
 -- Assumes nothing.
 use mathlib.Core.Path.{_≡_, refl, sym, ap, ap₂, _∙_}
-use mathlib.Core.Bool.{Bool, true, false, _&&_}
 use mathlib.Core.List.{List, [], _∷_, _++_, map, append-nil}
 use Prim.Native.Nat.{ℕ, zero, suc, _+_, _^_, _≤_, _<_, min}
 use native.Mathlib.Nat.{le-of-suc-le-suc, not-suc-le-zero, mod-eq-of-lt, lt-of-lt-of-le}
 use native.Mathlib.Numerals.{add-one}
 use native.Mathlib.Omega.{arith}
-use lib.ListN.{getD, set, length, take, drop, replicate, length-map, length-set, length-append, length-take, length-drop, drop-of-length-le}
-use lib.Seq.{take-all, take-length, take-at, take-suc, take-suc-set, set-at, drop-cons, getD-take, append-snoc, length-take-le, getD-set-same, getD-set-other}
-use lib.Dec.{eqb, ltb}
+use lib.ListN.{getD, set, length, take, drop, replicate, length-map, length-append, length-take, length-drop, drop-of-length-le}
+use lib.Seq.{take-all, take-length, take-at, take-suc, take-suc-set, set-at, drop-cons, getD-take, append-snoc, length-take-le}
 use lib.Pow.{pow-mono}
-use borrow.Author.Tests.{lt-ltb, eqb-true, eqb-false}
 use Rattle.binar.specs.declared.Row.{Row}
-use Rattle.binar.specs.Bits.{select}
 use Rattle.binar.specs.Rows.{width, val}
 use Rattle.binar.specs.inner.Blank.{blank}
 use Rattle.binar.proofs.Widths.{val-blank}
 use Rattle.blocks.specs.declared.Block.{Block}
 use Rattle.blocks.specs.Blocks.{room, vals, rowsOf}
 use Rattle.blocks.specs.Matrices.{All}
-use Rattle.blocks.specs.inner.Lists.{without, exchanged}
+use Rattle.blocks.specs.inner.Lists.{without}
 use Rattle.blocks.specs.Words.{rowsOfWords, wordOf, wordsOfRows, laid}
 
 -- ---- values
@@ -77,10 +73,6 @@ take-set (suc n) [] i v = refl
 take-set (suc n) (x ∷ l) zero v = refl
 take-set (suc n) (x ∷ l) (suc i) v = ap (λ (m : List ℕ). x ∷ m) (take-set n l i v)
 
--- a row written, inside or past the count
-pub rows-set : (l : List Row) (n i : ℕ) (v : Row) → take n (vals (set l i v)) ≡ set (take n (vals l)) i (val v)
-rows-set l n i v = ap (take n) (vals-set l i v) ∙ take-set n (vals l) i (val v)
-
 -- a count by the length of what it counts
 pub take-counted : (n : ℕ) (l : List ℕ) → take (length (take n l)) l ≡ take n l
 take-counted zero l = refl
@@ -91,26 +83,10 @@ take-counted (suc n) (x ∷ l) = ap (λ (m : List ℕ). x ∷ m) (take-counted n
 pub set-next : (l : List ℕ) (i v : ℕ) → i < length l → take (i + 1) (set l i v) ≡ take i l ++ (v ∷ [])
 set-next l i v h = ap (λ (j : ℕ). take j (set l i v)) (add-one i) ∙ take-suc-set l i v h
 
+-- a block written from its start: row i of m behind the first i, then as many as m has
 pub taken-next : (l : List Row) (i : ℕ) (v : Row) → i < length l → take (i + 1) (vals (set l i v)) ≡ take i (vals l) ++ (val v ∷ [])
 taken-next l i v h = ap (take (i + 1)) (vals-set l i v) ∙ set-next (vals l) i (val v) (omega (arith, vals-length l))
 
--- one row more behind those that there are, and what there is no room for
-pub push-more : (b : Block) (k : ℕ) (v : Row) → length (b .rows) ≡ room → k ≡ length (rowsOf b) → k < room → take (k + 1) (vals (set (b .rows) k v)) ≡ take room (rowsOf b ++ (val v ∷ []))
-unfolding rowsOf
-push-more b k v long e h =
-    let l = vals (b .rows) in
-    let n = take (b .count) l in
-    taken-next (b .rows) k v (omega arith)
-    ∙ ap (λ (m : List ℕ). m ++ (val v ∷ [])) (ap (λ (j : ℕ). take j l) e ∙ take-counted (b .count) l)
-    ∙ sym (take-all room (n ++ (val v ∷ [])) (omega (arith, length-append n (val v ∷ []))))
-
-pub push-full : (b : Block) (v : Row) → length (rowsOf b) ≡ room → rowsOf b ≡ take room (rowsOf b ++ (val v ∷ []))
-push-full b v e = sym (take-at (rowsOf b) (val v ∷ []) room e)
-
-pub push-fits : (l : List ℕ) (v : ℕ) → length l < room → take room (l ++ (v ∷ [])) ≡ l ++ (v ∷ [])
-push-fits l v h = take-all room (l ++ (v ∷ [])) (omega (arith, length-append l (v ∷ [])))
-
--- a block written from its start: row i of m behind the first i, then as many as m has
 pub write-next : (m : List ℕ) (l : List Row) (i : ℕ) (v : Row) → i < length m → i < length l → take i (vals l) ≡ take i m → val v ≡ getD m i 0 → take (i + 1) (vals (set l i v)) ≡ take (i + 1) m
 write-next m l i v h g e f =
     taken-next l i v g ∙ ap₂ (λ (k : List ℕ) (x : ℕ). k ++ (x ∷ [])) e f ∙ sym (ap (λ (k : ℕ). take k m) (add-one i) ∙ take-suc m i 0 h)
@@ -154,43 +130,6 @@ unfolding without
 without-length i [] h = absurd (not-suc-le-zero h)
 without-length zero (x ∷ l) h = refl
 without-length (suc i) (x ∷ l) h = ap suc (without-length i l (le-of-suc-le-suc h))
-
--- ---- two members exchanged
-
-pub exchanged-in : (i j : ℕ) (l : List ℕ) → i < length l → j < length l → exchanged i j l ≡ set (set l i (getD l j 0)) j (getD l i 0)
-unfolding exchanged
-exchanged-in i j l h g = ap₂ (λ (s t : Bool). select l (s && t) (set (set l i (getD l j 0)) j (getD l i 0))) (lt-ltb i (length l) h) (lt-ltb j (length l) g)
-
-pub exchanged-length : (i j : ℕ) (l : List ℕ) → length (exchanged i j l) ≡ length l
-unfolding exchanged
-exchanged-length i j l = go (ltb i (length l) && ltb j (length l))
-  where
-    go : (b : Bool) → length (select l b (set (set l i (getD l j 0)) j (getD l i 0))) ≡ length l
-    go true = length-set (set l i (getD l j 0)) j (getD l i 0) ∙ length-set l i (getD l j 0)
-    go false = refl
-
--- the first of the two is then the other one
-pub exchanged-first : (i j : ℕ) (l : List ℕ) → i < length l → j < length l → getD (exchanged i j l) i 0 ≡ getD l j 0
-exchanged-first i j l h g = ap (λ (m : List ℕ). getD m i 0) (exchanged-in i j l h g) ∙ go (eqb i j) refl
-  where
-    long : i < length (set l i (getD l j 0))
-    long = omega (arith, length-set l i (getD l j 0))
-
-    go : (b : Bool) → eqb i j ≡ b → getD (set (set l i (getD l j 0)) j (getD l i 0)) i 0 ≡ getD l j 0
-    go true e =
-        let same = eqb-true i j e in
-        ap (λ (k : ℕ). getD (set (set l i (getD l j 0)) k (getD l i 0)) i 0) (sym same) ∙ getD-set-same (set l i (getD l j 0)) i (getD l i 0) 0 long
-        ∙ ap (λ (k : ℕ). getD l k 0) same
-    go false e = getD-set-other (set l i (getD l j 0)) j i (getD l i 0) 0 (eqb-false i j e) ∙ getD-set-same l i (getD l j 0) 0 h
-
--- both rows written
-pub rows-exchange : (b : Block) (i j : ℕ) → i < length (rowsOf b) → j < length (rowsOf b)
-    → take (b .count) (vals (set (set (b .rows) i (getD (b .rows) j blank)) j (getD (b .rows) i blank))) ≡ exchanged i j (rowsOf b)
-unfolding rowsOf
-rows-exchange b i j h g =
-    rows-set (set (b .rows) i (getD (b .rows) j blank)) (b .count) j (getD (b .rows) i blank)
-    ∙ ap₂ (λ (m : List ℕ) (x : ℕ). set m j x) (rows-set (b .rows) (b .count) i (getD (b .rows) j blank) ∙ ap (set (rowsOf b) i) (rows-get b j g)) (rows-get b i h)
-    ∙ sym (exchanged-in i j (rowsOf b) h g)
 
 -- ---- rows laid into words
 

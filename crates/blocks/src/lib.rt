@@ -2,12 +2,12 @@
 // In the source: the crate binar, whose bit matrices these stand for.
 use binar::Row;
 ghost use mathlib.Core.Path.{_≡_};
-ghost use mathlib.Core.List.{[], _∷_, _++_, map};
-ghost use Prim.Native.Nat.{_+_, _%_, _<_, min};
+ghost use mathlib.Core.List.{[]};
+ghost use Prim.Native.Nat.{_+_, _<_, min};
 ghost use lib.ListN.{length, getD, set, take, drop};
-ghost use Rattle.binar.specs.Rows.{val, rowBound};
+ghost use Rattle.binar.specs.Rows.{val};
 ghost use Rattle.blocks.specs.Blocks.{room, rowsOf};
-ghost use Rattle.blocks.specs.Matrices.{times as timesOf, matmul, units};
+ghost use Rattle.blocks.specs.Matrices.{times as timesOf, matmul};
 ghost use Rattle.blocks.specs.Words.{rowsOfWords, wordOf, laid, rowsIn, wordsFor};
 
 // How many rows a block has room for.
@@ -41,21 +41,6 @@ pub fn empty() -> Block
     }
 }
 
-// The row behind the others, where there is room.
-pub fn push(b: Block, v: Row) -> Block
-    ensures { λ r. ⌜ rowsOf r ≡ take room (rowsOf b ++ (val v ∷ [])) ⌝ }
-{
-    let k = length_of(b);
-    if k < ROOM {
-        let mut n = b;
-        n.rows[k] = v;
-        n.count = k + 1;
-        n
-    } else {
-        b
-    }
-}
-
 // The first k rows.
 pub fn first_rows(b: Block, k: usize) -> Block
     ensures { λ r. ⌜ rowsOf r ≡ take k (rowsOf b) ⌝ }
@@ -81,46 +66,6 @@ pub fn rows_from(b: Block, k: usize) -> Block
         n.rows[i] = b.rows[first + i];
     }
     n.count = count;
-    n
-}
-
-// The unit rows, m of them, each as far as a row has columns.
-pub fn identity(m: usize) -> Block
-    ensures { λ r. ⌜ rowsOf r ≡ map (λ u. u % rowBound) (units (min m room)) ⌝ }
-{
-    let k = lesser(m, ROOM);
-    let mut n = empty();
-    for i in 0..k {
-        n.rows[i] = binar::unit(i);
-    }
-    n.count = k;
-    n
-}
-
-// The sum of the rows that c has ones for.
-fn times_block(c: Row, b: Block) -> Row
-    ensures { λ r. ⌜ val r ≡ timesOf (val c) (rowsOf b) ⌝ }
-{
-    let k = length_of(b);
-    let mut w = binar::zero();
-    let mut bits = binar::low(c, k);
-    while !binar::is_zero(bits) {
-        let t = binar::lowest(bits);
-        w = binar::sum(w, b.rows[t]);
-        bits = binar::sum(bits, binar::unit(t));
-    }
-    w
-}
-
-pub fn product(a: Block, b: Block) -> Block
-    ensures { λ r. ⌜ rowsOf r ≡ matmul (rowsOf a) (rowsOf b) ⌝ }
-{
-    let k = length_of(a);
-    let mut n = empty();
-    for i in 0..k {
-        n.rows[i] = times_block(a.rows[i], b);
-    }
-    n.count = k;
     n
 }
 

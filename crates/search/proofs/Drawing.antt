@@ -1,28 +1,20 @@
 -- The vectors of a space in the order of their coefficients: each is the one before it and the sum of the first members, up to the lowest one of the coefficient.
 -- Assumes nothing.
-use mathlib.Core.Path.{_≡_, refl, sym, ap, ap₂, _∙_, subst}
-use mathlib.Core.Logic.{⊎-elim}
-use mathlib.Core.Bool.{true, false}
+use mathlib.Core.Path.{_≡_, sym, ap, ap₂, _∙_, subst}
 use mathlib.Core.List.{List}
 use Prim.Native.Nat.{ℕ, suc, _+_, _-_, _*_, _%_, _^_, _≤_, _<_}
-use native.Mathlib.Nat.{one-mul, pow-suc, mod-eq-of-lt, eq-or-lt-of-le}
+use native.Mathlib.Nat.{one-mul, pow-suc, mod-eq-of-lt}
 use native.Mathlib.Omega.{arith}
-use lib.ListN.{length, getD}
+use lib.ListN.{getD}
 use lib.Pow.{pow-pos, ones-lt}
 use borrow.Author.Tests.{ne-eqb}
-use Rattle.binar.specs.Bits.{_⊕_, dot}
+use Rattle.binar.specs.Bits.{_⊕_}
 use Rattle.binar.specs.Rows.{width, rowBound, lowest}
 use Rattle.binar.proofs.Sums.{parts-sum, sum-comm}
-use Rattle.binar.proofs.Dots.{dot-sum}
 use Rattle.binar.proofs.Widths.{pow-bound}
 use Rattle.binar.proofs.Counting.{next-flips}
 use Rattle.blocks.specs.Matrices.{times}
 use Rattle.blocks.proofs.Products.{times-sum, times-unit, lowest-row}
-use Rattle.linear.specs.Span.{InSpan}
-use Rattle.linear.proofs.Instances.{𝕎}
-use Rattle.linear.proofs.Rows.{times-in}
-use Rattle.triangular.specs.Spaces.{complement}
-use Rattle.triangular.proofs.Complements.{complement-length, complement-none}
 
 -- the last coefficient
 pub ones-last : (d x : ℕ) → d ≤ width → x ≡ (2 ^ d - 1) % rowBound → x ≡ 2 ^ d - 1
@@ -60,14 +52,3 @@ module _ (d last c x : ℕ) (fits : d ≤ width) (last-is : last ≡ (2 ^ d - 1)
   next-drawn M p y k l e f =
       ap₂ _⊕_ e (f ∙ ap (λ t. times (2 ^ suc t - 1) M) (l ∙ ap lowest next-is)) ∙ sym (times-sum M c (2 ^ suc (lowest (c + 1)) - 1))
       ∙ ap (λ t. times t M) (sym (next-flips c inside .1) ∙ sym next-is)
-
--- a drawn vector with a dot: some member has one too
-pub drawn-first : (f : ℕ) (B : List ℕ) (c p j : ℕ) → p ≡ times c B → dot f p ≡ true
-    → j ≤ length B → ((i : ℕ) → i < j → dot f (getD B i 0) ≡ false) → j < length B
-drawn-first f B c p j e on h before = ⊎-elim (λ q. absurd (omega (arith, shorter, ap length (none q)))) (λ l. l) (eq-or-lt-of-le h)
-  where
-    shorter : length B ≡ suc (length (complement (dot f) B))
-    shorter = complement-length (dot f) (dot-sum f) B p on (subst (InSpan 𝕎 B) (sym e) (times-in c B))
-
-    none : j ≡ length B → complement (dot f) B ≡ B
-    none q = complement-none (dot f) B (λ i l. before i (subst (λ n. i < n) (sym q) l))

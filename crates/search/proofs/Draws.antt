@@ -18,7 +18,7 @@ use Rattle.triangular.specs.Search.{failed, afterRest, search, budgeted}
 use Rattle.search.specs.Endings.{verdictOf}
 use Rattle.search.specs.inner.Levels.{levels, foundIn, passedAt, gramOf, shrunk}
 use Rattle.search.proofs.Budgets.{drawn-before}
-use Rattle.search.proofs.Grams.{gram-length, lent-length}
+use Rattle.search.proofs.Grams.{gram-length}
 use Rattle.search.proofs.Levels.{levels-step, levels-least, levels-behind, front-less, level-rows, back-front, found-back}
 use Rattle.search.proofs.Passing.{first-hit, rest-length, passed-rest, passed-gram}
 

@@ -2,7 +2,6 @@
 -- Assumes nothing.
 use mathlib.Core.Path.{_≡_, refl, sym, ap, ap₂, _∙_, subst}
 use mathlib.Core.Bool.{Bool, true, false, false≢true}
-use mathlib.Core.Logic.{⊎-elim}
 use mathlib.Core.List.{List, _++_, map}
 use Prim.Native.Nat.{ℕ, zero, suc, _+_, _-_, _*_, _/_, _%_, _^_, _≤_, _<_, zero-le}
 use native.Mathlib.Nat.{pos-of-ne-zero}
@@ -11,7 +10,7 @@ use native.Mathlib.Omega.{arith}
 use lib.Dec.{ltb, eqb}
 use lib.Pow.{mod-pow-add}
 use lib.ListN.{length, getD, take, drop, List·getD-append, List·getD-map}
-use lib.Seq.{getD-take, getD-drop, length-take-le, getD-append-add, ext-getD}
+use lib.Seq.{getD-take, getD-drop, length-take-le, getD-append-add}
 use borrow.Author.Tests.{ltb-true, ltb-false, ne-eqb}
 use Rattle.binar.specs.Bits.{select, _⊕_, bit, odd, dot}
 use Rattle.binar.specs.Rows.{width, rowBound, lowest}
@@ -20,11 +19,10 @@ use Rattle.binar.proofs.Sums.{bit-zero-is-odd, sum-zero}
 use Rattle.binar.proofs.Dots.{dot-sum, dot-zero}
 use Rattle.binar.proofs.Ones.{lowest-one}
 use Rattle.binar.proofs.Widths.{pow-bound}
-use Rattle.blocks.specs.Matrices.{times, matmul, dots}
+use Rattle.blocks.specs.Matrices.{times, dots}
 use Rattle.blocks.proofs.Firsts.{First}
 use Rattle.blocks.proofs.Products.{bit-dots, dots-lt, times-sum, lowest-row}
 use Rattle.linear.specs.Maps.{Additive}
-use Rattle.linear.specs.Span.{InSpan}
 use Rattle.linear.proofs.Instances.{𝔹, 𝕎}
 use Rattle.linear.proofs.Maps.{map-at, map-o}
 use Rattle.linear.proofs.Rows.{times-in}
@@ -33,7 +31,7 @@ use Rattle.triangular.specs.Spaces.{complement}
 use Rattle.search.specs.inner.Levels.{keptOr, passedAt, gramOf, shrunk}
 use Rattle.triangular.proofs.Complements.{complement-at, complement-length}
 use Rattle.triangular.proofs.Cores.{form-dot, form-row}
-use Rattle.search.proofs.Grams.{dots-sum, gram-length, gram-row, gram-drawn, gram-self}
+use Rattle.search.proofs.Grams.{dots-sum, gram-row, gram-drawn, gram-self}
 use Rattle.search.proofs.Shrinks.{shrunk-dots}
 
 -- the digits below the lowest one are zero

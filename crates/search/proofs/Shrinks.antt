@@ -11,13 +11,12 @@ use lib.Pow.{pow-pos, shl-shr, shr-shr, mod-pow-add}
 use Rattle.binar.specs.Bits.{select, digit, odd, _⊕_, _⊻_, bit, dot}
 use Rattle.binar.proofs.Digits.{by-digits, low-digit, odd-digit, half-digit, same-digits, odd-sum, half-sum, bit-suc}
 use Rattle.binar.proofs.Dots.{dot-sum, dot-zero}
-use Rattle.binar.proofs.Sums.{bit-sum, bit-of-zero, bit-zero-is-odd, bxor-self, by-parts, parts-sum, sum-assoc, sum-comm, sum-self, sum-zero, zero-sum}
+use Rattle.binar.proofs.Sums.{bit-sum, bit-of-zero, bit-zero-is-odd, by-parts, parts-sum, sum-assoc, sum-comm, sum-self, sum-zero}
 use Rattle.blocks.specs.Matrices.{dots}
 use Rattle.blocks.proofs.Firsts.{First, first-later}
 use Rattle.blocks.proofs.Products.{bit-dots}
 use Rattle.triangular.specs.Spaces.{dropOrKeep, complement}
 use Rattle.search.specs.inner.Levels.{withoutColumn, shrunk}
-use Rattle.triangular.proofs.Complements.{complement-cons}
 
 -- ---- a number without digit j
 

@@ -1,12 +1,12 @@
 -- What a search has come to: its basis where it found one, by its ending.
 -- Assumes nothing.
-use mathlib.Core.Path.{_≡_, refl, sym, ap, _∙_}
+use mathlib.Core.Path.{_≡_, sym, ap, _∙_}
 use mathlib.Core.Logic.{_⊎_, ⊎-elim}
 use mathlib.Core.List.{List, []}
 use Prim.Native.Nat.{ℕ}
 use Rattle.search.specs.declared.Ending.{Ending}
 use Rattle.search.specs.declared.Ending.the-variants.{Found, Failed, Spent}
-use Rattle.triangular.specs.Search.{Verdict, found, ended}
+use Rattle.triangular.specs.Search.{Verdict}
 use Rattle.triangular.specs.Readings.{basisFound}
 use Rattle.search.specs.Endings.{verdictOf}
 

@@ -6,12 +6,11 @@ use Prim.Native.Nat.{ℕ, zero, suc, _+_, _≤_, _<_, min}
 use native.Mathlib.Nat.{le-of-suc-le-suc, not-suc-le-zero}
 use native.Mathlib.Omega.{arith}
 use lib.ListN.{length, getD, set, take, drop, replicate, drop-of-length-le}
-use lib.Seq.{take-all, take-at, take-take, take-append-le, getD-take, getD-at, drop-cons, length-take-le}
+use lib.Seq.{take-all, take-at, getD-take, getD-at, drop-cons, length-take-le}
 use Rattle.binar.specs.declared.Row.{Row}
 use Rattle.binar.specs.Rows.{val}
 use Rattle.binar.specs.inner.Blank.{blank}
 use Rattle.blocks.specs.Blocks.{vals}
-use Rattle.blocks.proofs.Units.{take-map}
 use Rattle.blocks.proofs.Values.{vals-get, vals-set, vals-length, laid-more}
 use Rattle.symplectic.specs.declared.Action.{Action}
 use Rattle.symplectic.specs.Actions.{maxQubits, mostRows, capped, qubits, matrix, padded}

@@ -9,7 +9,7 @@ use Rattle.binar.specs.Bits.{dot}
 use Rattle.binar.specs.Rows.{width}
 use Rattle.blocks.specs.Words.{rowsIn}
 use Rattle.blocks.specs.Matrices.{times, matmul}
-use Rattle.blocks.proofs.Products.{times-zero, times-matmul, matmul-is}
+use Rattle.blocks.proofs.Products.{times-zero, matmul-is}
 use Rattle.reduction.specs.Residue.{form}
 use Rattle.reduction.proofs.Forms.{form-is}
 use Rattle.triangular.specs.Readings.{coreIn}
@@ -20,9 +20,6 @@ row-times B E i = ap₂ (λ M d. getD M i d) (matmul-is B E) (sym (times-zero E)
 module _ (B G E : List ℕ) (is : matmul B E ≡ G) where
   pub core-row : (i : ℕ) → getD G i 0 ≡ times (getD B i 0) E
   core-row i = ap (λ M. getD M i 0) (sym is) ∙ row-times B E i
-
-  pub core-drawn : (c p f : ℕ) → p ≡ times c B → f ≡ times c G → f ≡ times p E
-  core-drawn c p f e g = g ∙ ap (times c) (sym is) ∙ times-matmul B E c ∙ ap (λ x. times x E) (sym e)
 
 pub form-dot : (E : List ℕ) (p f y : ℕ) → f ≡ times p E → form E p y ≡ dot f y
 form-dot E p f y e = form-is E p y ∙ ap (λ x. dot x y) (sym e)

@@ -1,7 +1,7 @@
 -- `put`: the word at i is set, and nothing past the end.
 -- Assumes nothing.
-use mathlib.Core.Path.{_≡_, sym, ap, _∙_}
-use lib.ListN.{length, set}
+use mathlib.Core.Path.{sym, ap, _∙_}
+use lib.ListN.{set}
 use lib.Seq.{set-out}
 use Rattle.blocks.specs.Words.{rowsOfWords}
 use Rattle.binar.proofs.Widths.{one-word}

@@ -4,7 +4,7 @@ use Prim.Native.Nat.{_+_, _≤_}
 use mathlib.Core.Path.{_∙_}
 use native.Mathlib.Omega.{arith}
 use lib.ListN.{replicate}
-use Rattle.symplectic.specs.Actions.{mostRows, capped}
+use Rattle.symplectic.specs.Actions.{mostRows}
 use Rattle.symplectic.proofs.Arrays.{capped-le}
 use Rattle.symplectic.proofs.Work.{room-in, part-words, part-rows}
 use borrow.Author.Needs.{needs}

@@ -1,6 +1,6 @@
 -- `added` sums where the bit is set.
 -- Assumes nothing.
-use mathlib.Core.Path.{_≡_, sym, ap, _∙_}
+use mathlib.Core.Path.{sym, ap, _∙_}
 use Rattle.binar.specs.Bits.{select, _⊕_}
 use Rattle.binar.specs.Rows.{val}
 use Rattle.binar.proofs.Sums.{sum-zero}

@@ -1,11 +1,11 @@
 -- `begin` puts the unit rows and the core, as far as these have columns, one by one.
 -- Assumes nothing.
-use mathlib.Core.Path.{_≡_, refl, sym, ap, ap₂, _∙_, subst}
+use mathlib.Core.Path.{_≡_, refl, sym, ap, ap₂, _∙_}
 use mathlib.Core.List.{List, _++_}
-use Prim.Native.Nat.{ℕ, _-_, _%_, _^_, _≤_, _<_, min}
+use Prim.Native.Nat.{ℕ, _-_, _%_, _^_, _≤_, _<_}
 use native.Mathlib.Omega.{arith}
-use lib.ListN.{length, getD, take, drop, length-set, length-take}
-use lib.Seq.{getD-take, take-at}
+use lib.ListN.{length, getD, take, drop}
+use lib.Seq.{getD-take}
 use Rattle.binar.specs.Rows.{val, width}
 use Rattle.binar.proofs.Ones.{unit-is}
 use Rattle.blocks.specs.Matrices.{units}
@@ -13,7 +13,7 @@ use Rattle.blocks.specs.Words.{rowsIn}
 use Rattle.blocks.proofs.Lent.{over-next, over-front, over-end}
 use Rattle.blocks.proofs.Units.{units-length, units-at}
 use Rattle.triangular.specs.Readings.{coreIn}
-use Rattle.search.specs.inner.Levels.{levels, gramOf}
+use Rattle.search.specs.inner.Levels.{gramOf}
 use Rattle.triangular.proofs.Cores.{core-in}
 use Rattle.search.proofs.Grams.{gram-length, gram-units}
 use Rattle.search.proofs.Levels.{levels-least}

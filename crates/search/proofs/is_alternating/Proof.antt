@@ -1,14 +1,13 @@
 -- `is_alternating` tests pair by pair, by the laws of `Alternates`; a bit of a Gram row is a form.
 -- Assumes nothing.
-use mathlib.Core.Path.{_≡_, refl, sym, ap, _∙_}
-use mathlib.Core.Bool.{Bool, true, false, Bool·beq}
+use mathlib.Core.Path.{_≡_, sym, ap, _∙_}
+use mathlib.Core.Bool.{true, Bool·beq}
 use mathlib.Core.List.{List}
-use Prim.Native.Nat.{ℕ, _+_, _-_, _*_, _≤_, _<_}
+use Prim.Native.Nat.{ℕ, _+_, _-_, _*_, _≤_}
 use native.Mathlib.Omega.{arith}
-use lib.ListN.{length, getD, take}
-use lib.Seq.{take-all, getD-take, length-take-le}
+use lib.ListN.{getD, take}
+use lib.Seq.{take-all}
 use borrow.Author.Tests.{not-true, not-false}
-use Rattle.binar.specs.Bits.{bit}
 use Rattle.binar.specs.Rows.{val, width}
 use Rattle.blocks.specs.Words.{rowsIn}
 use Rattle.linear.proofs.Maps.{same-of-beq}

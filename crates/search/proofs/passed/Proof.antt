@@ -1,6 +1,6 @@
 -- `passed` keeps the row before, or adds to the row behind.
 -- Assumes nothing.
-use mathlib.Core.Path.{_≡_, sym, ap, _∙_}
+use mathlib.Core.Path.{sym, ap, _∙_}
 use Rattle.binar.specs.Bits.{select, _⊕_}
 use Rattle.binar.specs.Rows.{val}
 use Rattle.search.specs.inner.Levels.{keptOr}

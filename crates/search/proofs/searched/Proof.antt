@@ -1,13 +1,12 @@
 -- `searched` begins with all rows, searches, and collects what was found.
 -- Assumes nothing.
-use mathlib.Core.Path.{_≡_, refl, sym, ap, ap₂, _∙_}
+use mathlib.Core.Path.{_≡_, refl, sym, ap, _∙_}
 use mathlib.Core.Logic.{_⊎_, inl, inr, ⊎-elim}
-use mathlib.Core.List.{List, []}
-use Prim.Native.Nat.{ℕ, _≤_, zero-le}
+use mathlib.Core.List.{List}
+use Prim.Native.Nat.{ℕ, zero-le}
 use native.Mathlib.Omega.{arith}
 use denote.Enum.Declared.{tagOf}
-use lib.ListN.{length, take}
-use Rattle.binar.specs.Rows.{width}
+use lib.ListN.{length}
 use Rattle.blocks.specs.Matrices.{units}
 use Rattle.blocks.specs.Words.{rowsIn, over}
 use Rattle.blocks.proofs.Lent.{lent-same, over-nil}
@@ -15,9 +14,9 @@ use Rattle.reduction.specs.Residue.{form}
 use Rattle.search.specs.declared.Ending.{Ending}
 use Rattle.search.specs.declared.Ending.the-variants.{Found, Failed, Spent}
 use Rattle.triangular.specs.Search.{Verdict, search as searchOf, budgeted}
-use Rattle.triangular.specs.Readings.{coreIn, basisFound}
+use Rattle.triangular.specs.Readings.{coreIn}
 use Rattle.search.specs.Endings.{verdictOf}
-use Rattle.search.specs.inner.Levels.{levels, foundIn, gramOf}
+use Rattle.search.specs.inner.Levels.{foundIn, gramOf}
 use Rattle.search.proofs.Ending.{the-type}
 use Rattle.search.proofs.Verdicts.{found-basis, no-basis, verdict-own}
 use borrow.Author.Needs.{needs}

@@ -5,7 +5,7 @@ use Prim.Native.Nat.{ℕ, suc, _+_, _-_, _^_, _≤_, _<_}
 use native.Mathlib.Nat.{le-refl}
 use native.Mathlib.Numerals.{add-one}
 use native.Mathlib.Omega.{arith}
-use lib.ListN.{length, length-set, getD, set, take}
+use lib.ListN.{length, length-set, getD, take}
 use lib.Seq.{take-set-le}
 use Rattle.binar.specs.Bits.{_⊕_}
 use Rattle.binar.specs.Rows.{val}

@@ -1,14 +1,13 @@
 -- `from_core` replies to questions 6 and 7, by `searched-spent`, `searched-found`, `searched-unbordered` and `searched-bordered`.
 -- Assumes nothing.
 use mathlib.Core.Path.{_≡_, sym, ap, ap₂, _∙_}
-use mathlib.Core.List.{List}
-use Prim.Native.Nat.{ℕ, _+_, _≤_, min}
+use Prim.Native.Nat.{ℕ, _+_, _≤_}
 use native.Mathlib.Omega.{arith}
 use lib.ListN.{length, take, replicate}
 use Rattle.binar.specs.Rows.{width}
 use Rattle.blocks.specs.Blocks.{rowsOf}
 use Rattle.blocks.specs.Matrices.{matmul}
-use Rattle.blocks.specs.Words.{laid, rowsIn, wordsFor, over}
+use Rattle.blocks.specs.Words.{laid, rowsIn, over}
 use Rattle.blocks.proofs.Values.{unmapped}
 use Rattle.blocks.proofs.Lent.{lent-front, over-front}
 use Rattle.symplectic.specs.Actions.{mostRows, qubits, matrix}

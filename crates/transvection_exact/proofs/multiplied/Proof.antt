@@ -1,6 +1,6 @@
 -- `multiplied` lays the product of two lots of lent rows, by what `multiply` and `rows_in` ensure.
 -- Assumes nothing.
-use mathlib.Core.Path.{_≡_, sym, ap, _∙_}
+use mathlib.Core.Path.{sym, ap, _∙_}
 use Prim.Native.Nat.{ℕ}
 use Rattle.blocks.specs.Words.{rowsIn}
 use Rattle.blocks.proofs.Products.{matmul-length}

@@ -1,11 +1,10 @@
 -- `searched` lends the basis and the core, as many rows as the rank says, to `from_core`.
 -- Assumes nothing.
-use mathlib.Core.Path.{_≡_, sym, ap, ap₂, _∙_}
-use mathlib.Core.List.{List}
-use Prim.Native.Nat.{ℕ, _+_, _≤_, min}
+use mathlib.Core.Path.{_≡_, sym, ap₂, _∙_}
+use Prim.Native.Nat.{_+_}
 use native.Mathlib.Omega.{arith}
 use lib.ListN.{length, take, replicate}
-use Rattle.blocks.specs.Words.{rowsIn, wordsFor, over}
+use Rattle.blocks.specs.Words.{rowsIn}
 use Rattle.blocks.proofs.Lent.{lent-front, over-front}
 use Rattle.blocks.proofs.Values.{unmapped}
 use Rattle.symplectic.specs.Actions.{mostRows, qubits, matrix}

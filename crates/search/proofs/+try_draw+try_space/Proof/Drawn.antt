@@ -2,18 +2,18 @@
 -- Assumes nothing.
 use mathlib.Core.Path.{_≡_, refl, sym, ap, _∙_, subst}
 use mathlib.Core.List.{List}
-use Prim.Native.Nat.{ℕ, _+_, _-_, _*_, _≤_, _<_}
+use Prim.Native.Nat.{ℕ, _+_, _-_, _≤_}
 use native.Mathlib.Omega.{arith}
 use borrow.Author.Needs.{needs}
 use lib.ListN.{length, take, drop}
 use Rattle.binar.specs.Rows.{val}
 use Rattle.blocks.specs.Words.{rowsIn}
-use Rattle.blocks.proofs.Lent.{lent-few, lent-same, lent-within, lent-rest, lent-back}
+use Rattle.blocks.proofs.Lent.{lent-same, lent-within, lent-rest, lent-back}
 use Rattle.reduction.specs.Residue.{form}
 use Rattle.triangular.specs.Search.{search as searchOf, budgeted}
 use Rattle.search.specs.Endings.{verdictOf}
 use Rattle.search.specs.inner.Levels.{levels, foundIn, gramOf}
-use Rattle.search.proofs.Levels.{levels-least, levels-behind}
+use Rattle.search.proofs.Levels.{levels-behind}
 use Rattle.search.proofs.Draws.{Steps, basis-kept, gram-kept, room-b, room-g, child-gram, answer}
 use Rattle.search.proofs.try_draw.Reads as try-draw
 use Rattle.search.proofs.+try_draw+try_space.Lts-try_draw as try-draw-lts

@@ -1,25 +1,22 @@
 -- Where `try_space` stands, and what is known there: the coefficients that come next, the sum of their Gram rows, and the space as its draws begin.
 -- Assumes nothing.
-use mathlib.Core.Path.{_≡_, refl, sym, ap, ap₂, _∙_}
-use mathlib.Core.Bool.{Bool}
+use mathlib.Core.Path.{_≡_, refl, sym, ap, _∙_}
 use mathlib.Core.List.{List}
-use Prim.Native.Nat.{ℕ, suc, _+_, _-_, _^_, _≤_, _<_}
+use Prim.Native.Nat.{ℕ, suc, _+_, _-_, _^_, _<_}
 use native.Mathlib.Nat.{pos-of-ne-zero}
 use native.Mathlib.Omega.{arith}
 use borrow.Author.Needs.{needs}
 use borrow.Author.Tests.{ltb-true, ltb-false}
-use lib.ListN.{length, getD, take}
+use lib.ListN.{length, take}
 use Rattle.binar.specs.Bits.{_⊕_, dot}
 use Rattle.binar.specs.Rows.{val, lowest}
 use Rattle.blocks.specs.Matrices.{times}
 use Rattle.blocks.specs.Words.{rowsIn}
-use Rattle.blocks.proofs.Lent.{lent-few, lent-same}
 use Rattle.blocks.proofs.Products.{times-zero}
 use Rattle.reduction.specs.Residue.{form}
-use Rattle.triangular.specs.Spaces.{isAlternating}
-use Rattle.triangular.specs.Search.{found, ended, search as searchOf, budgeted}
+use Rattle.triangular.specs.Search.{found, ended}
 use Rattle.search.specs.Endings.{verdictOf}
-use Rattle.search.specs.inner.Levels.{levels, gramOf}
+use Rattle.search.specs.inner.Levels.{gramOf}
 use Rattle.search.proofs.Budgets.{space-empty, space-alternating, space-begun, at-end, at-stop}
 use Rattle.search.proofs.Drawing.{ones-last, next-is, next-column, next-drawn}
 use Rattle.search.proofs.Grams.{gram-self}

@@ -1,28 +1,28 @@
 -- The turns of the draws of `try_space`: a draw that is left, one that failed, and one that ends the search.
 -- Assumes nothing.
-use mathlib.Core.Path.{_≡_, refl, sym, ap, ap₂, _∙_}
+use mathlib.Core.Path.{_≡_, refl, sym, ap, _∙_}
 use mathlib.Core.Logic.{_⊎_, inl, inr, ⊎-elim}
 use mathlib.Core.List.{List}
-use Prim.Native.Nat.{ℕ, _+_, _-_, _*_, _≤_, _<_}
+use Prim.Native.Nat.{ℕ, _+_, _-_}
 use native.Mathlib.Nat.{pos-of-ne-zero}
 use native.Mathlib.Omega.{arith}
 use denote.Enum.Declared.{tagOf}
 use borrow.Author.Needs.{needs}
-use lib.ListN.{length, take}
+use lib.ListN.{take}
 use Rattle.binar.specs.Rows.{val}
 use Rattle.blocks.specs.Matrices.{times}
 use Rattle.blocks.specs.Words.{rowsIn}
-use Rattle.blocks.proofs.Lent.{lent-few, lent-same}
+use Rattle.blocks.proofs.Lent.{lent-same}
 use Rattle.reduction.specs.Residue.{form}
 use Rattle.search.specs.declared.Ending.{Ending}
 use Rattle.search.specs.declared.Ending.the-variants.{Found, Failed, Spent}
 use Rattle.triangular.specs.Spaces.{complement}
 use Rattle.triangular.specs.Search.{Verdict, failed, afterRest, draws, search as searchOf, budgeted}
 use Rattle.search.specs.Endings.{verdictOf}
-use Rattle.search.specs.inner.Levels.{levels, foundIn, gramOf}
+use Rattle.search.specs.inner.Levels.{foundIn, gramOf}
 use Rattle.search.proofs.Ending.{the-type}
 use Rattle.search.proofs.Budgets.{at-left, at-kept, at-failed}
-use Rattle.search.proofs.Levels.{levels-least, front-less}
+use Rattle.search.proofs.Levels.{front-less}
 use Rattle.search.proofs.try_space.Reads as try-space
 use Rattle.search.proofs.+try_draw+try_space.Lts-try_space as try-space-lts
 use Rattle.search.proofs.+try_draw+try_space.Proof.Claims.{try-space-at, space-claims, try-space-Inv-loop, try-space-μ-loop}
