@@ -11,13 +11,13 @@ use lib.ListN.{length, take, drop, getD, set, length-set}
 use lib.Seq.{take-set-le}
 use Rattle.blocks.proofs.Firsts.{First, first-later, first-inner}
 use Rattle.reduction.specs.Columns.{unpulled, pulled, putIf, put, pullIf, pull, Echelon, clear, columnBy, column, columns}
-use Rattle.reduction.specs.inner.Sweeps.{halves, swapped, others}
+use Rattle.reduction.specs.inner.Sweeps.{halves, swapped}
 
-pub swapped-length : {A : Type 0} (d : A) (p j : ℕ) (l : List A) → length (swapped d p j l) ≡ length l
+swapped-length : {A : Type 0} (d : A) (p j : ℕ) (l : List A) → length (swapped d p j l) ≡ length l
 swapped-length d p j l = length-set (set l p (getD l j d)) j (getD l p d) ∙ length-set l p (getD l j d)
 
 -- row j is the pivot row then
-pub swapped-pivot : {A : Type 0} (d : A) (p j : ℕ) (l : List A) → p ≤ j → j < length l → getD (swapped d p j l) p d ≡ getD l j d
+swapped-pivot : {A : Type 0} (d : A) (p j : ℕ) (l : List A) → p ≤ j → j < length l → getD (swapped d p j l) p d ≡ getD l j d
 swapped-pivot d p j [] h k = absurd (not-suc-le-zero k)
 swapped-pivot d zero zero (t ∷ ts) h k = refl
 swapped-pivot d zero (suc j) (t ∷ ts) h k = refl
@@ -52,7 +52,20 @@ module _ {A : Type 0} (has : A → Bool) (d : A) where
 
 -- ---- a column
 
+-- every row but row p changed
+unfoldable others : {A : Type 0} → (A → A) → ℕ → List A → List A
+others f p [] = []
+others f zero (y ∷ ys) = y ∷ map f ys
+others f (suc p) (y ∷ ys) = f y ∷ others f p ys
+
 module _ {A : Type 0} (f : A → A) where
+  -- row p put back
+  others-set : (d : A) (p : ℕ) (l : List A) → others f p l ≡ set (map f l) p (getD l p d)
+  unfolding others
+  others-set d p [] = refl
+  others-set d zero (y ∷ ys) = refl
+  others-set d (suc p) (y ∷ ys) = ap (λ l. f y ∷ l) (others-set d p ys)
+
   others-take : (d : A) (p : ℕ) (l : List A) → p < length l → take (suc p) (others f p l) ≡ map f (take p l) ++ (getD l p d ∷ [])
   unfolding others
   others-take d p [] h = absurd (not-suc-le-zero h)
@@ -67,12 +80,14 @@ module _ {A : Type 0} (f : A → A) where
 
 module _ {A : Type 0} (o : A) (add : A → A → A) (d : A) where
   pub column-at : (c : ℕ) (has : A → Bool) (p j : ℕ) (ps : List ℕ) (l : List A) → First has d l p j
-      → column o add c has (halves p ps l) ≡ halves (suc p) (ps ++ (c ∷ [])) (others (clear o add has (getD l j d)) p (swapped d p j l))
+      → column o add c has (halves p ps l)
+      ≡ halves (suc p) (ps ++ (c ∷ [])) (set (map (clear o add has (getD (swapped d p j l) p d)) (swapped d p j l)) p (getD (swapped d p j l) p d))
   column-at c has p j ps l f =
       ap (columnBy o add c has (halves p ps l)) (pull-at has d p j l f)
       ∙ ap₂ (λ u w. record { up = u; down = w; pivots = ps ++ (c ∷ []) })
       (sym (others-take cl d p s inside ∙ ap₂ (λ t x. map cl t ++ (x ∷ [])) above (swapped-pivot d p j l (f .from) (f .inside))))
       (sym (others-drop cl p s))
+      ∙ ap (halves (suc p) (ps ++ (c ∷ []))) (others-set cl d p s ∙ ap (λ x. set (map (clear o add has x) s) p (getD s p d)) (sym (swapped-pivot d p j l (f .from) (f .inside))))
     where
       cl : A → A
       cl = clear o add has (getD l j d)

@@ -10,10 +10,10 @@ use lib.ListN.{length, take, getD, set}
 use lib.Seq.{take-length}
 use Rattle.binar.specs.Bits.{bit}
 use Rattle.symplectic.specs.Picks.{addBoth}
-use Rattle.reduction.specs.Columns.{clear, column}
-use Rattle.reduction.specs.inner.Sweeps.{halves, swapped, others, swept}
+use Rattle.reduction.specs.Columns.{column}
+use Rattle.reduction.specs.inner.Sweeps.{halves, swapped, swept}
 use Rattle.blocks.proofs.Firsts.{First}
-use Rattle.reduction.proofs.Flat.{swapped-pivot, column-at, column-none}
+use Rattle.reduction.proofs.Flat.{column-at, column-none}
 
 -- ---- two lists of one length, side by side
 
@@ -93,10 +93,7 @@ zip-swapped R T e p j =
 both-at : (c p j : ℕ) (ps R T : List ℕ) → length R ≡ length T → First (bit c) 0 R p j
     → column (0, 0) addBoth c (λ a. bit c (a .0)) (halves p ps (zip R T)) ≡ halves (suc p) (ps ++ (c ∷ [])) (swept c p (zip (swapped 0 p j R) (swapped 0 p j T)))
 both-at c p j ps R T e f =
-    column-at zeros addBoth zeros c has p j ps (zip R T) first
-    ∙ ap (halves (suc p) (ps ++ (c ∷ [])))
-    (ap (λ x. others (clear zeros addBoth has x) p (swapped zeros p j (zip R T))) (sym (swapped-pivot zeros p j (zip R T) (first .from) (first .inside)))
-    ∙ ap (swept c p) (sym (zip-swapped R T e p j)))
+    column-at zeros addBoth zeros c has p j ps (zip R T) first ∙ ap (λ l. halves (suc p) (ps ++ (c ∷ [])) (swept c p l)) (sym (zip-swapped R T e p j))
   where
     has : ℕ × ℕ → Bool
     has a = bit c (a .0)

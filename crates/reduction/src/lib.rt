@@ -1,18 +1,19 @@
 // Reduction by columns: rows with their transform, and the rank; I + F, the residue of an action, its basis and core.
 // In the source: transvection_exact.rs, `residue_matrix`, `row_reduce_with_transform`, `residue_core`.
 use binar::Row;
+use binar::WIDTH;
 use blocks::Block;
 use blocks::ROOM;
 use symplectic::Action;
 use symplectic::MAX_QUBITS;
 use symplectic::MOST_ROWS;
 ghost use mathlib.Core.Path.{_≡_};
-ghost use mathlib.Core.Bool.{true, false, not, _&&_};
+ghost use mathlib.Core.Bool.{true, false};
 ghost use mathlib.Core.List.{List, _++_, map, zip};
 ghost use Prim.Native.Nat.{ℕ, _+_, _%_, _≤_, _<_};
 ghost use lib.ListN.{getD, take, drop, length};
-ghost use Rattle.binar.specs.Bits.{bit as bitOf, _⊕_, select};
-ghost use Rattle.binar.specs.Rows.{val, width, rowBound, unit as unitOf};
+ghost use Rattle.binar.specs.Bits.{bit as bitOf, select};
+ghost use Rattle.binar.specs.Rows.{val, width, rowBound};
 ghost use Rattle.blocks.specs.Blocks.{rowsOf};
 ghost use Rattle.blocks.specs.Matrices.{units, dots as dotsOf, All};
 ghost use Rattle.blocks.specs.Words.{rowsIn, over};
@@ -21,7 +22,7 @@ ghost use Rattle.symplectic.specs.Turns.{identityPlus};
 ghost use Rattle.symplectic.specs.Picks.{addBoth};
 ghost use Rattle.reduction.specs.Columns.{unreduced, rows as allRows, column, columns, rank as rankOf, rowReduceWithTransform};
 ghost use Rattle.reduction.specs.Pivots.{pivotsOf, FirstOnes, NoOtherOnes, Ascending};
-ghost use Rattle.reduction.specs.inner.Sweeps.{halves, swapped, swept, ReducedIn};
+ghost use Rattle.reduction.specs.inner.Sweeps.{halves, swapped, cleared, swept, ReducedIn};
 ghost use Rattle.reduction.specs.Residue.{residue as residueOf, basis as basisOf, core as coreOf, timesTransposed};
 
 // A matrix reduced: its rows and those of the transform in their final order. The first `rank` rows are the basis, and the first `rank`
@@ -58,34 +59,38 @@ fn exchange(w: &mut [u64], i: usize, j: usize)
     blocks::put(w, j, x);
 }
 
-// A row with the pivot row v added, where it is another one and has the column.
-fn swept_row(u: Row, v: Row, pivot: bool, has: bool) -> Row
-    ensures { λ r. ⌜ val r ≡ select (val u) (not pivot && has) (val u ⊕ val v) ⌝ }
+// A row, or zero.
+fn picked(v: Row, on: bool) -> Row
+    ensures { λ r. ⌜ val r ≡ select 0 on (val v) ⌝ }
 {
-    if pivot {
-        return u;
-    }
-    if has {
-        return binar::sum(u, v);
-    }
-    u
+    if on { v } else { binar::zero() }
 }
 
-// Clears column c from every row but row p by adding row p, and the transform goes along.
+// Adds v to every row that has column c, and w to the same rows of the transform.
+fn clear(c: usize, v: Row, w: Row, a: &mut [u64], t: &mut [u64])
+    requires { ⌜ length (rowsIn (now a)) ≡ length (rowsIn (now t)) ⌝ }
+    ensures { λ _. ⌜ zip (rowsIn (now (a .exit))) (rowsIn (now (t .exit))) ≡ cleared c (val v, val w) (zip (rowsIn (now (a .entry))) (rowsIn (now (t .entry)))) ⌝ }
+{
+    // the lesser of two equal counts, so that neither is asked in the loop
+    let k = blocks::lesser(blocks::rows_in(a), blocks::rows_in(t));
+    for i in 0..k {
+        let x = blocks::row(a, i);
+        let has = binar::bit(x, c);
+        blocks::put(a, i, binar::sum(x, picked(v, has)));
+        blocks::put(t, i, binar::sum(blocks::row(t, i), picked(w, has)));
+    }
+}
+
+// Clears column c from every row but row p by adding that row, and the transform goes along.
 fn sweep(c: usize, p: usize, a: &mut [u64], t: &mut [u64])
     requires { ⌜ length (rowsIn (now a)) ≡ length (rowsIn (now t)) ⌝ }
     ensures { λ _. ⌜ zip (rowsIn (now (a .exit))) (rowsIn (now (t .exit))) ≡ swept c p (zip (rowsIn (now (a .entry))) (rowsIn (now (t .entry)))) ⌝ }
 {
     let v = blocks::row(a, p);
     let w = blocks::row(t, p);
-    let k = blocks::rows_in(a);
-    for i in 0..k {
-        let x = blocks::row(a, i);
-        let y = blocks::row(t, i);
-        let has = binar::bit(x, c);
-        blocks::put(a, i, swept_row(x, v, i == p, has));
-        blocks::put(t, i, swept_row(y, w, i == p, has));
-    }
+    clear(c, v, w, a, t);
+    blocks::put(a, p, v);
+    blocks::put(t, p, w);
 }
 
 // Column c: the first row from p on that has it is exchanged up, then cleared from every other row. Answers where the pivot row is next.
@@ -120,7 +125,7 @@ fn by_columns(m: usize, a: &mut [u64], t: &mut [u64], pivots: &mut [usize]) -> u
     p
 }
 
-// Lays the unit rows, each as far as a row has columns.
+// Puts the unit rows, each as far as a row has columns.
 fn put_units(t: &mut [u64])
     ensures { λ _. ⌜ rowsIn (now (t .exit)) ≡ map (λ u. u % rowBound) (units (length (rowsIn (now (t .entry))))) ⌝ }
 {
@@ -139,7 +144,7 @@ fn reduce(m: usize, a: &mut [u64], t: &mut [u64], pivots: &mut [usize]) -> usize
     by_columns(m, a, t, pivots)
 }
 
-// Lays the rows of a block.
+// Puts the rows of a block.
 fn put_block(b: Block, w: &mut [u64])
     requires { ⌜ length (rowsIn (now w)) ≡ length (rowsOf b) ⌝ }
     ensures { λ _. ⌜ rowsIn (now (w .exit)) ≡ rowsOf b ⌝ }
@@ -176,14 +181,20 @@ pub fn row_reduce_with_transform(m: usize, matrix: Block) -> Reduction
     ensures ascending { λ r. ⌜ Ascending (r .rank) (pivotsOf r) ⌝ }
     ensures within { λ r. ⌜ All (λ p. p < m) (pivotsOf r) ⌝ }
 {
-    let mut a = [0u64; ROOM];
-    let mut t = [0u64; ROOM];
+    let mut rows = [0u64; ROOM];
+    let mut transform = [0u64; ROOM];
     let mut pivots = [0; ROOM];
-    let to = blocks::start(&a, blocks::length_of(matrix));
-    let rank = reduce_block(m, matrix, &mut a[..to], &mut t[..to], &mut pivots);
+    let to = blocks::start(&rows, blocks::length_of(matrix));
+    let rank = reduce_block(
+        m,
+        matrix,
+        &mut rows[..to],
+        &mut transform[..to],
+        &mut pivots,
+    );
     Reduction {
-        rows: blocks::from_words(MAX_QUBITS, &a[..to]),
-        transform: blocks::from_words(MAX_QUBITS, &t[..to]),
+        rows: blocks::from_words(MAX_QUBITS, &rows[..to]),
+        transform: blocks::from_words(MAX_QUBITS, &transform[..to]),
         pivots: pivots,
         rank: rank,
     }
@@ -208,7 +219,7 @@ fn rotated(i: usize, k: usize, m: usize) -> usize
     if i < rest { i + k } else { i - rest }
 }
 
-// Lays the rows of I + F from row k on, then the first k.
+// Puts the rows of I + F from row k on, then the first k.
 fn put_plus(a: Action, k: usize, w: &mut [u64])
     requires { ⌜ (k ≤ qubits a + qubits a) × (length (rowsIn (now w)) ≡ qubits a + qubits a) ⌝ }
     ensures { λ _. ⌜ rowsIn (now (w .exit)) ≡ drop k (identityPlus (qubits a) (matrix a)) ++ take k (identityPlus (qubits a) (matrix a)) ⌝ }
@@ -246,20 +257,16 @@ pub fn residue(a: Action) -> Block
     identity_plus_from(a, symplectic::qubits_of(a))
 }
 
-fn with_unit(w: Row, k: usize, on: bool) -> Row
-    ensures { λ r. ⌜ val r ≡ val w ⊕ select 0 on (unitOf k) ⌝ }
-{
-    if on { binar::sum(w, binar::unit(k)) } else { w }
-}
-
 // The row whose column i is the dot of v and row i of the first k: v times these transposed.
 fn dots(v: Row, w: &[u64], k: usize) -> Row
     requires { ⌜ (k ≤ width) × (k ≤ length (rowsIn (now w))) ⌝ }
     ensures { λ r. ⌜ val r ≡ dotsOf (take k (rowsIn (now (w .entry)))) (val v) ⌝ }
 {
+    // the bounds of k once more, so that none is asked in the loop
+    let m = blocks::lesser(blocks::lesser(k, WIDTH), blocks::rows_in(w));
     let mut s = binar::zero();
-    for i in 0..k {
-        s = with_unit(s, i, binar::dot(v, blocks::row(w, i)));
+    for i in 0..m {
+        s = binar::sum(s, picked(binar::unit(i), binar::dot(v, blocks::row(w, i))));
     }
     s
 }

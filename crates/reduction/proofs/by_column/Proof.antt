@@ -1,6 +1,6 @@
 -- `by_column` leaves all as it is where no row has the column, by `both-none`; else it exchanges, sweeps and writes the pivot, by `column-next`.
 -- Assumes nothing.
-use mathlib.Core.Path.{sym, ap, ap₂, _∙_}
+use mathlib.Core.Path.{sym, ap₂, _∙_}
 use mathlib.Core.List.{zip}
 use Prim.Native.Nat.{_≤_, _<_}
 use lib.ListN.{length, take}
@@ -9,8 +9,8 @@ use Rattle.blocks.specs.Words.{rowsIn}
 use Rattle.blocks.proofs.Firsts.{First}
 use Rattle.blocks.proofs.Values.{set-next}
 use Rattle.reduction.specs.inner.Sweeps.{swept}
-use Rattle.reduction.proofs.Flat.{swapped-length}
 use Rattle.reduction.proofs.TwoLists.{both-none, column-next}
+use Rattle.reduction.proofs.Words.{same-count}
 use native.Mathlib.Omega.{arith}
 use borrow.Author.Needs.{needs}
 use Rattle.reduction.proofs.by_column.Statement.{statement}
@@ -27,10 +27,12 @@ same-length c = search needs
 
 returns : tie.Need-returns
 returns c =
-    let s = c .before .before .before .before .before .before .before .before .args in
-    let f = c .before .before .before .first-with .ensures in
-    let none : length (rowsIn (s .a .now)) ≤ c .before .before .before .first-with .result = omega (arith, c .before .rows-in .ensures) in
-    (search needs, sym (both-none (s .c) (s .p) (take (s .p) (s .pivots .now)) (rowsIn (s .a .now)) (rowsIn (s .t .now)) (c .before .before .before .before .before .before .before .before .pre .0) (λ i a l. f .2 i a (omega arith))))
+    let start = c .before .before .before .before .before .before .before .before in
+    let s = start .args in
+    let R = rowsIn (s .a .now) in
+    let f = c .before .before .before .first-with in
+    let none : length R ≤ f .result = omega (arith, c .before .rows-in .ensures) in
+    (search needs, sym (both-none (s .c) (s .p) (take (s .p) (s .pivots .now)) R (rowsIn (s .t .now)) (start .pre .0) (λ i a l. f .ensures .2 i a (omega arith))))
 
 exchange-requires : tie.Need-exchange-requires
 exchange-requires c κs = search needs
@@ -40,10 +42,11 @@ exchange-requires-2 c κs = search needs
 
 sweep-requires : tie.Need-sweep-requires
 sweep-requires c κs =
-    let s = c .before .before .before .before .before .before .before .before .before .before .before .before .before .before .before .before .before .before .args in
-    let j = c .before .before .before .before .before .before .before .before .before .before .before .before .before .first-with .result in
-    ap length (c .before .before .before .before .before .before .before .before .exchange .ensures) ∙ swapped-length 0 (s .p) j (rowsIn (s .a .now)) ∙ c .before .before .before .before .before .before .before .before .before .before .before .before .before .before .before .before .before .before .pre .0
-    ∙ sym (ap length (c .before .before .before .before .exchange2 .ensures) ∙ swapped-length 0 (s .p) j (rowsIn (s .t .now)))
+    let start = c .before .before .before .before .before .before .before .before .before .before .before .before .before .before .before .before .before .before in
+    let s = start .args in
+    let x = c .before .before .before .before .before .before .before .before .exchange in
+    let y = c .before .before .before .before .exchange2 in
+    same-count (x .last .0) (s .a .now) (x .kept .0) ∙ start .pre .0 ∙ sym (same-count (y .last .0) (s .t .now) (y .kept .0))
 
 mul-pivots : tie.Need-mul-pivots
 mul-pivots c = search needs
@@ -65,18 +68,21 @@ same-length-4 c = search needs
 
 returns-2 : tie.Need-returns-2
 returns-2 c =
-    let s = c .before .before .before .before .before .before .before .before .before .before .before .before .before .before .before .before .before .before .before .before .before .before .before .args in
+    let start = c .before .before .before .before .before .before .before .before .before .before .before .before .before .before .before .before .before .before .before .before .before .before .before in
+    let s = start .args in
     let f = c .before .before .before .before .before .before .before .before .before .before .before .before .before .before .before .before .before .before .first-with .ensures in
     let j = c .before .before .before .before .before .before .before .before .before .before .before .before .before .before .before .before .before .before .first-with .result in
     let R = rowsIn (s .a .now) in
     let T = rowsIn (s .t .now) in
-    let inside : j < length R = omega (arith, c .before .before .before .before .before .before .before .before .before .before .before .before .before .before .before .before .rows-in .ensures) in
+    let inside : j < length R = omega (arith, c .before .before .before .before .before .before .before .before .before .before .before .before .before .before .before .before .rows-in .ensures, c .before .before .before .before .before .before .before .before .before .before .before .before .before .before .before .if1 .left) in
     let h : s .p < length R = omega (arith, f .0) in
-    let first : First (bit (s .c)) 0 R (s .p) j = record { from = f .0; inside = inside; before = f .2; at = f .3 inside } in (
+    let first : First (bit (s .c)) 0 R (s .p) j = record { from = f .0; inside = inside; before = f .2; at = f .3 inside } in
+    let pivots = set-next (s .pivots .now) (s .p) (s .c) (omega (arith, start .pre .2)) in
+    let x = c .before .before .before .before .before .before .before .before .before .before .before .before .before .exchange .ensures in
+    let y = c .before .before .before .before .before .before .before .before .before .exchange2 .ensures in (
       omega arith,
-      column-next (s .c) (s .p) j (take (s .p) (s .pivots .now)) _ R T _ _ (c .before .before .before .before .before .before .before .before .before .before .before .before .before .before .before .before .before .before .before .before .before .before .before .pre .0) first
-          (set-next (s .pivots .now) (s .p) (s .c) (omega (arith, c .before .before .before .before .before .before .before .before .before .before .before .before .before .before .before .before .before .before .before .before .before .before .before .pre .2)))
-          (c .before .before .before .before .sweep .ensures ∙ ap₂ (λ l m. swept (s .c) (s .p) (zip l m)) (c .before .before .before .before .before .before .before .before .before .before .before .before .before .exchange .ensures) (c .before .before .before .before .before .before .before .before .before .exchange2 .ensures)),
+      column-next (s .c) (s .p) j (take (s .p) (s .pivots .now)) _ R T _ _ (start .pre .0) first pivots
+          (c .before .before .before .before .sweep .ensures ∙ ap₂ (λ l m. swept (s .c) (s .p) (zip l m)) x y),
     )
 
 pub by-column-spec : {M : Type 1} → statement M

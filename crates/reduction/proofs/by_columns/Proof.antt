@@ -38,9 +38,10 @@ loop-holds c =
 by-column-requires : tie.Need-by-column-requires Inv-loop μ-loop
 by-column-requires c κs =
     let at = c .before .before .before .before .loop in
-    let s = c .before .before .before .before .before .before .before .before .args in
+    let start = c .before .before .before .before .before .before .before .before in
+    let s = start .args in
     let size = same-count (at .a) (s .a .now) (at .inv .1) in
-    (size ∙ c .before .before .before .before .before .before .before .before .pre .0 ∙ sym (same-count (at .t) (s .t .now) (at .inv .2)), omega (arith, size, at .inv .4), omega (arith, size, at .inv .3, c .before .before .before .before .before .before .before .before .pre .1))
+    (size ∙ start .pre .0 ∙ sym (same-count (at .t) (s .t .now) (at .inv .2)), omega (arith, size, at .inv .4), omega (arith, size, at .inv .3, start .pre .1))
 
 add-c : tie.Need-add-c Inv-loop μ-loop
 add-c c = search needs

@@ -17,16 +17,33 @@ use Rattle.reduction.proofs.dots.Statement.{statement}
 use Rattle.reduction.proofs.dots.Tie as tie
 
 abbrev Inv-loop : tie.InvT-loop
-Inv-loop v w k s₀ i₀ s i = (i ≤ k) × (val s ≡ dots (take i (rowsIn w)) (val v))
+Inv-loop v w k m s₀ i₀ s i = (i ≤ m) × (m ≡ k) × (val s ≡ dots (take i (rowsIn w)) (val v))
 
 abbrev μ-loop : tie.MeasureT-loop
-μ-loop v w k s₀ i₀ s i = k - i
+μ-loop v w k m s₀ i₀ s i = m - i
+
+lesser-requires : tie.Need-lesser-requires Inv-loop μ-loop
+lesser-requires c κs = search needs
+
+rows-in-requires : tie.Need-rows-in-requires Inv-loop μ-loop
+rows-in-requires c κs = search needs
+
+lesser-requires-2 : tie.Need-lesser-requires-2 Inv-loop μ-loop
+lesser-requires-2 c κs = search needs
 
 zero-requires : tie.Need-zero-requires Inv-loop μ-loop
 zero-requires c κs = search needs
 
 loop-holds : tie.Need-loop-holds Inv-loop μ-loop
-loop-holds c = (search needs, c .zero .ensures ∙ sym (dots-nil (val (c .before .before .args .v))))
+loop-holds c =
+    let start = c .before .before .before .before .before in
+    let same = c .before .lesser2 .ensures in
+    let inner = c .before .before .before .lesser .ensures in
+    let size = c .before .before .rows-in .ensures in
+    (search needs, omega (arith, same, inner, size, start .pre .0, start .pre .1), c .zero .ensures ∙ sym (dots-nil (val (start .args .v))))
+
+unit-requires : tie.Need-unit-requires Inv-loop μ-loop
+unit-requires c κs = search needs
 
 row-requires : tie.Need-row-requires Inv-loop μ-loop
 row-requires c κs = search needs
@@ -34,8 +51,11 @@ row-requires c κs = search needs
 dot-requires : tie.Need-dot-requires Inv-loop μ-loop
 dot-requires c κs = search needs
 
-with-unit-requires : tie.Need-with-unit-requires Inv-loop μ-loop
-with-unit-requires c κs = search needs
+picked-requires : tie.Need-picked-requires Inv-loop μ-loop
+picked-requires c κs = search needs
+
+sum-requires : tie.Need-sum-requires Inv-loop μ-loop
+sum-requires c κs = search needs
 
 add-i : tie.Need-add-i Inv-loop μ-loop
 add-i c = search needs
@@ -45,22 +65,24 @@ loop-less c = search needs
 
 loop-again : tie.Need-loop-again Inv-loop μ-loop
 loop-again c =
-    let at = c .before .before .before .before .loop in
-    let s = c .before .before .before .before .before .before .before .args in
+    let at = c .before .before .before .before .before .before .loop in
+    let start = c .before .before .before .before .before .before .before .before .before .before .before .before in
+    let s = start .args in
     let rows = rowsIn (s .w .now) in
-    let h : at .i < length rows = omega (arith, c .before .before .before .before .before .before .before .pre .1) in (
+    let h : at .i < length rows = omega (arith, at .inv .1, start .pre .1) in
+    let unit = c .before .before .before .before .unit .ensures ∙ unit-is (at .i) (omega (arith, at .inv .1, start .pre .0)) in
+    let on = c .before .before .dot .ensures ∙ ap (dot (val (s .v))) (c .before .before .before .row .ensures) in (
       search needs,
-      c .with-unit .ensures
-          ∙ ap₂ _⊕_ (at .inv .1) (ap₂ (λ (b : Bool) (u : ℕ). select 0 b u) (c .before .dot .ensures ∙ ap (dot (val (s .v))) (c .before .before .row .ensures)) (unit-is (at .i) (omega (arith, c .before .before .before .before .before .before .before .pre .0))))
-          ∙ sym (dots-next rows (at .i) (val (s .v)) h),
+      at .inv .1,
+      c .sum .ensures ∙ ap₂ _⊕_ (at .inv .2) (c .before .picked .ensures ∙ ap₂ (λ (b : Bool) (u : ℕ). select 0 b u) on unit) ∙ sym (dots-next rows (at .i) (val (s .v)) h),
     )
 
 returns : tie.Need-returns Inv-loop μ-loop
 returns c =
     let at = c .before .loop in
-    let s = c .before .before .before .before .args in
-    let e : at .i ≡ s .k = omega arith in
-    at .inv .1 ∙ ap (λ (n : ℕ). dots (take n (rowsIn (s .w .now))) (val (s .v))) e
+    let s = c .before .before .before .before .before .before .before .args in
+    let e : at .i ≡ s .k = omega (arith, at .inv .1) in
+    at .inv .2 ∙ ap (λ (n : ℕ). dots (take n (rowsIn (s .w .now))) (val (s .v))) e
 
 pub dots-spec : {M : Type 1} → statement M
 dots-spec =
@@ -68,11 +90,16 @@ dots-spec =
     (tie.spec
     Inv-loop
     μ-loop
+    lesser-requires
+    rows-in-requires
+    lesser-requires-2
     zero-requires
     loop-holds
+    unit-requires
     row-requires
     dot-requires
-    with-unit-requires
+    picked-requires
+    sum-requires
     add-i
     loop-less
     loop-again

@@ -27,8 +27,9 @@ same-length c = search needs
 returns : tie.Need-returns
 returns c =
     let s = c .before .before .before .before .before .before .before .before .before .before .before .before .before .args in
-    c .before .before .put2 .ensures
-    ∙ ap₂ (λ (l : List ℕ) (x : ℕ). set l (s .j) x) (c .before .before .before .before .before .before .put .ensures ∙ ap (set (rowsIn (s .w .now)) (s .i)) (c .before .before .before .before .before .before .before .before .row2 .ensures)) (c .before .before .before .before .before .before .before .before .before .before .row .ensures)
+    let first = c .before .before .before .before .before .before .put .ensures ∙ ap (set (rowsIn (s .w .now)) (s .i)) (c .before .before .before .before .before .before .before .before .row2 .ensures) in
+    let x = c .before .before .before .before .before .before .before .before .before .before .row .ensures in
+    c .before .before .put2 .ensures ∙ ap₂ (λ (l : List ℕ) (x : ℕ). set l (s .j) x) first x
 
 pub exchange-spec : {M : Type 1} → statement M
 exchange-spec =

@@ -34,7 +34,8 @@ returns : tie.Need-returns Inv-loop μ-loop
 returns c =
     let at = c .before .before .before .before .loop in
     let s = c .before .before .before .before .before .before .before .args in
-    (at .inv .0, omega (arith, c .before .before .before .before .before .rows-in .ensures), at .inv .1, λ l. ap (bit (s .c)) (sym (c .before .before .row .ensures)) ∙ sym (c .before .bit .ensures) ∙ c .if1 .taken)
+    let on = ap (bit (s .c)) (sym (c .before .before .row .ensures)) ∙ sym (c .before .bit .ensures) ∙ c .if1 .taken in
+    (at .inv .0, omega (arith, c .before .before .before .before .before .rows-in .ensures), at .inv .1, λ l. on)
 
 add-i : tie.Need-add-i Inv-loop μ-loop
 add-i c = search needs

@@ -39,7 +39,9 @@ slice-aggregate-put-plus c =
 put-plus-requires : tie.Need-put-plus-requires
 put-plus-requires c κs =
     let n = c .before .before .before .qubits-of in
-    (c .before .before .before .before .pre, lent-rows (n .result + n .result) mostRows (c .before .start .result) (c .before .start .ensures) (fits (c .before .before .before)) ∙ ap (λ (m : ℕ). m + m) (n .ensures))
+    let to = c .before .start in
+    let long = lent-rows (n .result + n .result) mostRows (to .result) (to .ensures) (fits (c .before .before .before)) in
+    (c .before .before .before .before .pre, long ∙ ap (λ (m : ℕ). m + m) (n .ensures))
 
 array-share-prefix-w : tie.Need-array-share-prefix-w
 array-share-prefix-w c =
@@ -59,9 +61,11 @@ from-words-requires c κs = search needs
 returns : tie.Need-returns
 returns c =
     let n = c .before .before .before .before .before .before .before .qubits-of .result in
+    let to = c .before .before .before .before .before .start in
     let o = c .before .before .before .put-plus in
     let in-array = fits (c .before .before .before .before .before .before .before) in
-    c .from-words .ensures ∙ left-rows (n + n) mostRows (c .before .before .before .before .before .start .result) (c .before .before .before .before .before .start .ensures) (o .last .1 .1 .0) (o .kept .1 .1 .0) in-array (omega (arith, in-array)) ∙ o .ensures
+    let rows = left-rows (n + n) mostRows (to .result) (to .ensures) (o .last .1 .1 .0) (o .kept .1 .1 .0) in-array (omega (arith, in-array)) in
+    c .from-words .ensures ∙ rows ∙ o .ensures
 
 pub identity-plus-from-spec : {M : Type 1} → statement M
 identity-plus-from-spec =

@@ -51,14 +51,15 @@ loop-less c = search needs
 loop-again : tie.Need-loop-again Inv-loop μ-loop
 loop-again c =
     let at = c .before .before .before .before .before .before .loop in
-    let s = c .before .before .before .before .before .before .before .before .before .before .args in
+    let start = c .before .before .before .before .before .before .before .before .before .before in
+    let s = start .args in
     let h : at .i < length (rowsOf (s .t1)) = omega (arith, at .inv .1) in (
       search needs,
       at .inv .1,
       at .inv .2,
       search needs,
       c .before .before .put .ensures
-          ∙ over-next (rowsOf (s .t1)) (rowsIn (s .w .now)) (rowsIn (at .w)) (at .i) _ h (omega (arith, c .before .before .before .before .before .before .before .before .before .before .pre)) (at .inv .4) (rows-get (s .t1) (at .i) h),
+          ∙ over-next (rowsOf (s .t1)) (rowsIn (s .w .now)) (rowsIn (at .w)) (at .i) _ h (omega (arith, start .pre)) (at .inv .4) (rows-get (s .t1) (at .i) h),
     )
 
 same-length : tie.Need-same-length Inv-loop μ-loop
@@ -67,8 +68,9 @@ same-length c = search needs
 returns : tie.Need-returns Inv-loop μ-loop
 returns c =
     let at = c .before .loop in
-    let s = c .before .before .before .before .before .args in
-    at .inv .4 ∙ put-all (rowsOf (s .t1)) (rowsIn (s .w .now)) (at .i) (sym (c .before .before .before .before .before .pre)) (omega (arith, at .inv .1, c .before .before .before .before .before .pre))
+    let start = c .before .before .before .before .before in
+    let s = start .args in
+    at .inv .4 ∙ put-all (rowsOf (s .t1)) (rowsIn (s .w .now)) (at .i) (sym (start .pre)) (omega (arith, at .inv .1, start .pre))
 
 pub put-block-spec : {M : Type 1} → statement M
 put-block-spec =

@@ -49,17 +49,21 @@ loop-less c = search needs
 loop-again : tie.Need-loop-again Inv-loop μ-loop
 loop-again c =
     let at = c .before .before .before .before .before .before .before .loop in
-    let s = c .before .before .before .before .before .before .before .before .before .before .before .before .before .before .args in
-    let B = take (s .k) (rowsIn (s .rows .now)) in
+    let start = c .before .before .before .before .before .before .before .before .before .before .before .before .before .before in
+    let s = start .args in
+    let rows = rowsIn (s .rows .now) in
+    let B = take (s .k) rows in
     let R = take (s .k) (rowsIn (s .transform .now)) in
-    let size = length-take-le (s .k) (rowsIn (s .rows .now)) (c .before .before .before .before .before .before .before .before .before .before .before .before .before .before .pre .1) in
+    let size = length-take-le (s .k) rows (start .pre .1) in
     let m = c .before .before .before .before .before .before .before .before .lesser .ensures in
-    let h : at .i < s .k = omega (arith, m) in (
+    let room = c .before .before .before .before .before .before .before .before .before .rows-in .ensures in
+    let h : at .i < s .k = omega (arith, m) in
+    let row = c .before .before .before .before .row .ensures ∙ sym (getD-take (s .k) rows (at .i) 0 h) in
+    let v = c .before .before .before .dots .ensures ∙ ap (dots R) row ∙ sym (transposed-at B R (at .i) (omega (arith, size))) in (
       search needs,
       search needs,
       c .before .before .put .ensures
-          ∙ over-next (timesTransposed B R) (rowsIn (s .out .now)) (rowsIn (at .out)) (at .i) _ (omega (arith, size, transposed-length B R)) (omega (arith, m, c .before .before .before .before .before .before .before .before .before .rows-in .ensures)) (at .inv .2)
-          (c .before .before .before .dots .ensures ∙ ap (dots R) (c .before .before .before .before .row .ensures ∙ sym (getD-take (s .k) (rowsIn (s .rows .now)) (at .i) 0 h)) ∙ sym (transposed-at B R (at .i) (omega (arith, size)))),
+          ∙ over-next (timesTransposed B R) (rowsIn (s .out .now)) (rowsIn (at .out)) (at .i) _ (omega (arith, size, transposed-length B R)) (omega (arith, m, room)) (at .inv .2) v,
     )
 
 same-length : tie.Need-same-length Inv-loop μ-loop
@@ -68,11 +72,13 @@ same-length c = search needs
 returns : tie.Need-returns Inv-loop μ-loop
 returns c =
     let at = c .before .loop in
-    let s = c .before .before .before .before .before .before .before .before .args in
+    let start = c .before .before .before .before .before .before .before .before in
+    let s = start .args in
     let B = take (s .k) (rowsIn (s .rows .now)) in
     let R = take (s .k) (rowsIn (s .transform .now)) in
-    let size = length-take-le (s .k) (rowsIn (s .rows .now)) (c .before .before .before .before .before .before .before .before .pre .1) in
-    at .inv .2 ∙ over-end (timesTransposed B R) (rowsIn (s .out .now)) (at .i) (omega (arith, size, transposed-length B R, c .before .before .lesser .ensures, c .before .before .before .rows-in .ensures))
+    let size = length-take-le (s .k) (rowsIn (s .rows .now)) (start .pre .1) in
+    let m = c .before .before .lesser .ensures in
+    at .inv .2 ∙ over-end (timesTransposed B R) (rowsIn (s .out .now)) (at .i) (omega (arith, size, transposed-length B R, m, c .before .before .before .rows-in .ensures))
 
 pub put-core-spec : {M : Type 1} → statement M
 put-core-spec =

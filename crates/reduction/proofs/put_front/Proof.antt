@@ -43,16 +43,17 @@ loop-less c = search needs
 loop-again : tie.Need-loop-again Inv-loop μ-loop
 loop-again c =
     let at = c .before .before .before .before .before .before .loop in
-    let s = c .before .before .before .before .before .before .before .before .before .before .before .before .args in
+    let start = c .before .before .before .before .before .before .before .before .before .before .before .before in
+    let s = start .args in
     let rows = rowsIn (s .rows .now) in
-    let size = length-take-le (s .k) rows (c .before .before .before .before .before .before .before .before .before .before .before .before .pre) in
+    let size = length-take-le (s .k) rows (start .pre) in
     let m = c .before .before .before .before .before .before .before .lesser .ensures in
-    let h : at .i < s .k = omega (arith, m) in (
+    let room = c .before .before .before .before .before .before .before .before .rows-in .ensures in
+    let h : at .i < s .k = omega (arith, m) in
+    let v = c .before .before .before .row .ensures ∙ sym (getD-take (s .k) rows (at .i) 0 h) in (
       search needs,
       search needs,
-      c .before .before .put .ensures
-          ∙ over-next (take (s .k) rows) (rowsIn (s .out .now)) (rowsIn (at .out)) (at .i) _ (omega (arith, size)) (omega (arith, m, c .before .before .before .before .before .before .before .before .rows-in .ensures)) (at .inv .2)
-          (c .before .before .before .row .ensures ∙ sym (getD-take (s .k) rows (at .i) 0 h)),
+      c .before .before .put .ensures ∙ over-next (take (s .k) rows) (rowsIn (s .out .now)) (rowsIn (at .out)) (at .i) _ (omega (arith, size)) (omega (arith, m, room)) (at .inv .2) v,
     )
 
 same-length : tie.Need-same-length Inv-loop μ-loop
@@ -61,9 +62,10 @@ same-length c = search needs
 returns : tie.Need-returns Inv-loop μ-loop
 returns c =
     let at = c .before .loop in
-    let s = c .before .before .before .before .before .before .before .args in
+    let start = c .before .before .before .before .before .before .before in
+    let s = start .args in
     let rows = rowsIn (s .rows .now) in
-    let size = length-take-le (s .k) rows (c .before .before .before .before .before .before .before .pre) in
+    let size = length-take-le (s .k) rows (start .pre) in
     at .inv .2 ∙ over-end (take (s .k) rows) (rowsIn (s .out .now)) (at .i) (omega (arith, size, c .before .before .lesser .ensures, c .before .before .before .rows-in .ensures))
 
 pub put-front-spec : {M : Type 1} → statement M

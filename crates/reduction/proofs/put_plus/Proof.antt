@@ -68,7 +68,8 @@ loop-less c = search needs
 loop-again : tie.Need-loop-again Inv-loop μ-loop
 loop-again c =
     let at = c .before .before .before .before .before .before .before .before .before .loop in
-    let s = c .before .before .before .before .before .before .before .before .before .before .before .before .before .args in
+    let start = c .before .before .before .before .before .before .before .before .before .before .before .before .before in
+    let s = start .args in
     let a = s .t1 in
     let o = c .before .before .before .before .before .before .before .rotated in
     let j = o .result in
@@ -78,10 +79,10 @@ loop-again c =
       at .inv .2,
       search needs,
       c .before .before .put .ensures
-          ∙ over-next (from (s .k) a) (rowsIn (s .w .now)) (rowsIn (at .w)) (at .i) _ (omega (arith, plus-from-length (qubits a) (matrix a) (size (c .before .before .before .before .before .before .before .before .before .before .before .before .before)) (s .k), at .inv .1))
-          (omega (arith, at .inv .1, c .before .before .before .before .before .before .before .before .before .before .before .before .before .pre .1)) (at .inv .4)
+          ∙ over-next (from (s .k) a) (rowsIn (s .w .now)) (rowsIn (at .w)) (at .i) _ (omega (arith, plus-from-length (qubits a) (matrix a) (size start) (s .k), at .inv .1))
+          (omega (arith, at .inv .1, start .pre .1)) (at .inv .4)
           (c .before .before .before .sum .ensures ∙ ap₂ _⊕_ (matrix-get a j h) (c .before .before .before .before .unit .ensures ∙ unit-is j (omega (arith, at .inv .2, o .ensures .0)))
-          ∙ plus-from-at (qubits a) (matrix a) (size (c .before .before .before .before .before .before .before .before .before .before .before .before .before)) (s .k) (at .i) j h (λ l e. o .ensures .1 l (e ∙ sym (at .inv .1)))),
+          ∙ plus-from-at (qubits a) (matrix a) (size start) (s .k) (at .i) j h (λ l e. o .ensures .1 l (e ∙ sym (at .inv .1)))),
     )
 
 same-length : tie.Need-same-length Inv-loop μ-loop
@@ -90,10 +91,11 @@ same-length c = search needs
 returns : tie.Need-returns Inv-loop μ-loop
 returns c =
     let at = c .before .loop in
-    let s = c .before .before .before .before .before .args in
+    let start = c .before .before .before .before .before in
+    let s = start .args in
     let a = s .t1 in
-    let long = plus-from-length (qubits a) (matrix a) (size (c .before .before .before .before .before)) (s .k) in
-    at .inv .4 ∙ put-all (from (s .k) a) (rowsIn (s .w .now)) (at .i) (long ∙ sym (c .before .before .before .before .before .pre .1)) (omega (arith, at .inv .1, c .before .before .before .before .before .pre .1))
+    let long = plus-from-length (qubits a) (matrix a) (size start) (s .k) in
+    at .inv .4 ∙ put-all (from (s .k) a) (rowsIn (s .w .now)) (at .i) (long ∙ sym (start .pre .1)) (omega (arith, at .inv .1, start .pre .1))
 
 pub put-plus-spec : {M : Type 1} → statement M
 put-plus-spec =

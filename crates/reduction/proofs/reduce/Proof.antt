@@ -20,8 +20,10 @@ put-units-requires c κs = search needs
 
 by-columns-requires : tie.Need-by-columns-requires
 by-columns-requires c κs =
-    let k = length (rowsIn (c .before .before .before .before .before .before .before .before .before .before .args .t .now)) in
-    (c .before .before .before .before .before .before .before .before .before .before .pre .0 ∙ sym (ap length (c .before .before .before .before .before .put-units .ensures) ∙ length-map (units k) (λ u. u % rowBound) ∙ units-length k), c .before .before .before .before .before .before .before .before .before .before .pre .1)
+    let start = c .before .before .before .before .before .before .before .before .before .before in
+    let k = length (rowsIn (start .args .t .now)) in
+    let size = ap length (c .before .before .before .before .before .put-units .ensures) ∙ length-map (units k) (λ u. u % rowBound) ∙ units-length k in
+    (start .pre .0 ∙ sym size, start .pre .1)
 
 same-length : tie.Need-same-length
 same-length c = search needs
@@ -34,16 +36,19 @@ same-length-3 c = search needs
 
 returns : tie.Need-returns
 returns c =
-    let s = c .before .before .before .before .before .before .before .before .before .before .before .before .before .before .before .before .before .args in
+    let start = c .before .before .before .before .before .before .before .before .before .before .before .before .before .before .before .before .before in
+    let s = start .args in
+    let put = c .before .before .before .before .before .before .before .before .before .before .before .before .put-units in
     let o = c .before .before .before .before .before .before .by-columns in
     let a = o .last .1 .0 in
     let t = o .last .1 .1 .0 in
     let M = rowsIn (s .a .now) in
-    let even = c .before .before .before .before .before .before .before .before .before .before .before .before .before .before .before .before .before .pre .0 in
-    let begin = c .before .before .before .before .before .before .before .before .before .before .before .before .put-units .ensures ∙ ap (λ (k : ℕ). map (λ u. u % rowBound) (units k)) (sym even) in
+    let even = start .pre .0 in
+    let begin = put .ensures ∙ ap (λ (k : ℕ). map (λ u. u % rowBound) (units k)) (sym even) in
     let long = same-count a (s .a .now) (search needs) in
-    reduced-in (s .m) M (o .result) (take (o .result) (o .last .1 .1 .1 .0)) (rowsIn a) (rowsIn t) (long ∙ even ∙ sym (same-count t (s .t .now) (search needs)))
-    (o .ensures .1 ∙ begun (s .m) M (rowsIn (c .before .before .before .before .before .before .before .before .before .before .before .before .put-units .last .0)) begin) (omega (arith, long, o .ensures .0))
+    let same = long ∙ even ∙ sym (same-count t (s .t .now) (search needs)) in
+    reduced-in (s .m) M (o .result) (take (o .result) (o .last .1 .1 .1 .0)) (rowsIn a) (rowsIn t) same
+    (o .ensures .1 ∙ begun (s .m) M (rowsIn (put .last .0)) begin) (omega (arith, long, o .ensures .0))
 
 pub reduce-spec : {M : Type 1} → statement M
 reduce-spec =

@@ -12,8 +12,9 @@ put-block-requires c κs = search needs
 
 reduce-requires : tie.Need-reduce-requires
 reduce-requires c κs =
+    let start = c .before .before .before .before .before .before .before .before .before .before in
     let size = ap length (c .before .before .before .before .before .put-block .ensures) in
-    (size ∙ sym (c .before .before .before .before .before .before .before .before .before .before .pre .1), omega (arith, size, c .before .before .before .before .before .before .before .before .before .before .pre .2))
+    (size ∙ sym (start .pre .1), omega (arith, size, start .pre .2))
 
 same-length : tie.Need-same-length
 same-length c = search needs
@@ -25,7 +26,9 @@ same-length-3 : tie.Need-same-length-3
 same-length-3 c = search needs
 
 returns : tie.Need-returns
-returns c = rw (c .before .before .before .before .before .before .before .before .before .before .before .before .put-block .ensures) at (c .before .before .before .before .before .before .reduce .ensures)
+returns c =
+    let put = c .before .before .before .before .before .before .before .before .before .before .before .before .put-block in
+    rw (put .ensures) at (c .before .before .before .before .before .before .reduce .ensures)
 
 pub reduce-block-spec : {M : Type 1} → statement M
 reduce-block-spec =

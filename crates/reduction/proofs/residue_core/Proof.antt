@@ -52,9 +52,11 @@ slice-aggregate-residue-core-in-3 c = refl
 residue-core-in-requires : tie.Need-residue-core-in-requires
 residue-core-in-requires c κs =
     let n = c .before .before .before .before .before .before .before .qubits-of in
+    let to = c .before .before .before .before .before .start in
+    let room = fits (c .before .before .before .before .before .before .before) in
     let twice = ap (λ (m : ℕ). m + m) (n .ensures) in
-    let long = lent-rows (n .result + n .result) mostRows (c .before .before .before .before .before .start .result) (c .before .before .before .before .before .start .ensures) (fits (c .before .before .before .before .before .before .before)) ∙ twice in
-    (long, long, omega (arith, twice, fits (c .before .before .before .before .before .before .before)))
+    let long = lent-rows (n .result + n .result) mostRows (to .result) (to .ensures) room ∙ twice in
+    (long, long, omega (arith, twice, room))
 
 same-length : tie.Need-same-length
 same-length c = c .before .before .before .before .before .before .before .residue-core-in .kept .1 .1 .1 .1 .0

@@ -21,7 +21,7 @@ size : (c : tie.Start) → length (matrix (c .args .a)) ≡ qubits (c .args .a) 
 size c = matrix-length (c .args .a) (search (needs, unmapped))
 
 -- the rows are those of the residue
-is : (c : tie.After-put-plus) → rowsIn (c .put-plus .last .1 .1 .0) ≡ residue (qubits (c .before .before .before .before .before .before .before .before .args .a)) (matrix (c .before .before .before .before .before .before .before .before .args .a))
+is : (c : tie.After-put-plus) → let a = c .before .before .before .before .before .before .before .before .args .a in rowsIn (c .put-plus .last .1 .1 .0) ≡ residue (qubits a) (matrix a)
 is c =
     let a = c .before .before .before .before .before .before .before .before .args .a in
     let l = identityPlus (qubits a) (matrix a) in
@@ -38,21 +38,25 @@ add-reduce c = search needs
 
 reduce-requires : tie.Need-reduce-requires
 reduce-requires c κs =
-    let s = c .before .before .before .before .before .before .before .before .before .before .before .before .before .args in
-    let long = same-count (c .before .before .before .before .before .put-plus .last .1 .1 .0) (s .rows .now) (c .before .before .before .before .before .put-plus .kept .1 .1 .0) ∙ c .before .before .before .before .before .before .before .before .before .before .before .before .before .pre .0 in
-    (long ∙ sym (c .before .before .before .before .before .before .before .before .before .before .before .before .before .pre .1), omega (arith, long, c .before .before .before .before .before .before .before .before .before .before .before .before .before .pre .2))
+    let start = c .before .before .before .before .before .before .before .before .before .before .before .before .before in
+    let put = c .before .before .before .before .before .put-plus in
+    let long = same-count (put .last .1 .1 .0) (start .args .rows .now) (put .kept .1 .1 .0) ∙ start .pre .0 in
+    (long ∙ sym (start .pre .1), omega (arith, long, start .pre .2))
 
 put-front-requires : tie.Need-put-front-requires
 put-front-requires c κs =
     let n = c .before .before .before .before .before .before .before .before .before .before .before .before .before .before .before .before .qubits-of .result in
-    rank-in-rows (n + n) (c .before .before .before .before .before .before .before .before .reduce .result) _ _ _ _ (c .before .before .before .before .before .before .before .before .reduce .ensures)
+    let r = c .before .before .before .before .before .before .before .before .reduce in
+    rank-in-rows (n + n) (r .result) _ _ _ _ (r .ensures)
 
 put-core-requires : tie.Need-put-core-requires
 put-core-requires c κs =
-    let a = c .before .before .before .before .before .before .before .before .before .before .before .before .before .before .before .before .before .before .before .before .before .before .before .before .before .before .before .before .args .a in
+    let start = c .before .before .before .before .before .before .before .before .before .before .before .before .before .before .before .before .before .before .before .before .before .before .before .before .before .before .before .before in
+    let a = start .args .a in
     let n = c .before .before .before .before .before .before .before .before .before .before .before .before .before .before .before .before .before .before .before .before .before .before .qubits-of in
+    let put = c .before .before .before .before .before .before .before .before .before .before .before .before .before .before .before .before .before .before .before .before in
     let r = c .before .before .before .before .before .before .before .before .before .before .before .before .before .before .reduce in (
-      rank-wide (n .result) (qubits a) (r .result) (matrix a) _ _ _ _ (size (c .before .before .before .before .before .before .before .before .before .before .before .before .before .before .before .before .before .before .before .before .before .before .before .before .before .before .before .before)) (qubits-le a) (n .ensures) (is (c .before .before .before .before .before .before .before .before .before .before .before .before .before .before .before .before .before .before .before .before)) (r .ensures),
+      rank-wide (n .result) (qubits a) (r .result) (matrix a) _ _ _ _ (size start) (qubits-le a) (n .ensures) (is put) (r .ensures),
       rank-in-rows (n .result + n .result) (r .result) _ _ _ _ (r .ensures),
       rank-in-transform (n .result + n .result) (r .result) _ _ _ _ (r .ensures),
     )
@@ -74,19 +78,17 @@ same-length-5 c = search needs
 
 returns : tie.Need-returns
 returns c =
-    let s = c .before .before .before .before .before .before .before .before .before .before .before .before .before .before .before .before .before .before .before .before .before .before .before .before .before .before .before .before .before .before .before .args in
+    let start = c .before .before .before .before .before .before .before .before .before .before .before .before .before .before .before .before .before .before .before .before .before .before .before .before .before .before .before .before .before .before .before in
+    let s = start .args in
     let a = s .a in
     let n = c .before .before .before .before .before .before .before .before .before .before .before .before .before .before .before .before .before .before .before .before .before .before .before .before .before .qubits-of in
+    let put = c .before .before .before .before .before .before .before .before .before .before .before .before .before .before .before .before .before .before .before .before .before .before .before in
     let r = c .before .before .before .before .before .before .before .before .before .before .before .before .before .before .before .before .before .reduce in
-    let rank = rank-end (n .result) (qubits a) (r .result) (matrix a) _ _ _ _ (size (c .before .before .before .before .before .before .before .before .before .before .before .before .before .before .before .before .before .before .before .before .before .before .before .before .before .before .before .before .before .before .before)) (qubits-le a) (n .ensures) (is (c .before .before .before .before .before .before .before .before .before .before .before .before .before .before .before .before .before .before .before .before .before .before .before)) (r .ensures) in
-    let basis = basis-end (n .result) (qubits a) (r .result) (matrix a) _ _ _ _ (size (c .before .before .before .before .before .before .before .before .before .before .before .before .before .before .before .before .before .before .before .before .before .before .before .before .before .before .before .before .before .before .before)) (qubits-le a) (n .ensures) (is (c .before .before .before .before .before .before .before .before .before .before .before .before .before .before .before .before .before .before .before .before .before .before .before)) (r .ensures) in
-    let core = core-end (n .result) (qubits a) (r .result) (matrix a) _ _ _ _ (size (c .before .before .before .before .before .before .before .before .before .before .before .before .before .before .before .before .before .before .before .before .before .before .before .before .before .before .before .before .before .before .before)) (qubits-le a) (n .ensures) (is (c .before .before .before .before .before .before .before .before .before .before .before .before .before .before .before .before .before .before .before .before .before .before .before)) (r .ensures) in (
-      rank,
-      (
-        c .before .before .before .before .before .before .before .before .put-front .ensures ∙ ap (λ (l : List ℕ). over l (rowsIn (s .basis .now))) basis,
-        c .before .before .put-core .ensures ∙ ap (λ (l : List ℕ). over l (rowsIn (s .core .now))) core,
-      ),
-    )
+    let rank = rank-end (n .result) (qubits a) (r .result) (matrix a) _ _ _ _ (size start) (qubits-le a) (n .ensures) (is put) (r .ensures) in
+    let basis = basis-end (n .result) (qubits a) (r .result) (matrix a) _ _ _ _ (size start) (qubits-le a) (n .ensures) (is put) (r .ensures) in
+    let core = core-end (n .result) (qubits a) (r .result) (matrix a) _ _ _ _ (size start) (qubits-le a) (n .ensures) (is put) (r .ensures) in
+    let based = c .before .before .before .before .before .before .before .before .put-front .ensures ∙ ap (λ (l : List ℕ). over l (rowsIn (s .basis .now))) basis in
+    (rank, (based, c .before .before .put-core .ensures ∙ ap (λ (l : List ℕ). over l (rowsIn (s .core .now))) core))
 
 pub residue-core-in-spec : {M : Type 1} → statement M
 residue-core-in-spec =

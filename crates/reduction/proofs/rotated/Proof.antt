@@ -22,9 +22,10 @@ returns c =
 
 returns-2 : tie.Need-returns-2
 returns-2 c =
-    let s = c .before .args in
-    let a = c .before .pre .0 in
-    let b = c .before .pre .1 in
+    let start = c .before in
+    let s = start .args in
+    let a = start .pre .0 in
+    let b = start .pre .1 in
     (omega arith, λ l e. upper-at (s .k) (s .i) l (omega (arith, e)) (omega (arith, e)) (omega (arith, e)) ∙ ap (λ m. getD l (s .i - (m - s .k)) 0) e)
 
 pub rotated-spec : {M : Type 1} → statement M

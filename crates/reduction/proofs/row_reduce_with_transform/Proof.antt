@@ -30,14 +30,14 @@ length-of-requires c κs = search needs
 start-requires : tie.Need-start-requires
 start-requires c κs = search needs
 
-array-borrow-prefix-a : tie.Need-array-borrow-prefix-a
-array-borrow-prefix-a c = lent-room (c .before .length-of .result) room (c .start .result) (c .start .ensures)
+array-borrow-prefix-rows : tie.Need-array-borrow-prefix-rows
+array-borrow-prefix-rows c = lent-room (c .before .length-of .result) room (c .start .result) (c .start .ensures)
 
 slice-aggregate-reduce-block : tie.Need-slice-aggregate-reduce-block
 slice-aggregate-reduce-block c = lent-count (c .before .before .length-of .result) room (c .before .start .result) (c .before .start .ensures)
 
-array-borrow-prefix-t : tie.Need-array-borrow-prefix-t
-array-borrow-prefix-t c = lent-room (c .before .before .length-of .result) room (c .before .start .result) (c .before .start .ensures)
+array-borrow-prefix-transform : tie.Need-array-borrow-prefix-transform
+array-borrow-prefix-transform c = lent-room (c .before .before .length-of .result) room (c .before .start .result) (c .before .start .ensures)
 
 slice-aggregate-reduce-block-2 : tie.Need-slice-aggregate-reduce-block-2
 slice-aggregate-reduce-block-2 c = lent-count (c .before .before .before .length-of .result) room (c .before .before .start .result) (c .before .before .start .ensures)
@@ -52,28 +52,36 @@ reduce-block-requires c κs =
     let size = lent-rows (k .result) room (to .result) (to .ensures) (fits (c .before .before .before .before)) ∙ k .ensures in
     (size, size, omega (arith, k .ensures, fits (c .before .before .before .before)))
 
-array-share-prefix-a : tie.Need-array-share-prefix-a
-array-share-prefix-a c =
+array-share-prefix-rows : tie.Need-array-share-prefix-rows
+array-share-prefix-rows c =
+    let k = c .before .before .before .before .before .before .before .before .length-of .result in
+    let to = c .before .before .before .before .before .before .before .start in
     let o = c .before .before .before .reduce-block in
-    left-room (c .before .before .before .before .before .before .before .before .length-of .result) room (c .before .before .before .before .before .before .before .start .result) (c .before .before .before .before .before .before .before .start .ensures) (o .last .1 .1 .0) (o .kept .1 .1 .0)
+    left-room k room (to .result) (to .ensures) (o .last .1 .1 .0) (o .kept .1 .1 .0)
 
 slice-aggregate-from-words : tie.Need-slice-aggregate-from-words
 slice-aggregate-from-words c =
+    let k = c .before .before .before .before .before .before .before .before .before .length-of .result in
+    let to = c .before .before .before .before .before .before .before .before .start in
     let o = c .before .before .before .before .reduce-block in
-    left-count (c .before .before .before .before .before .before .before .before .before .length-of .result) room (c .before .before .before .before .before .before .before .before .start .result) (c .before .before .before .before .before .before .before .before .start .ensures) (o .last .1 .1 .0) (o .kept .1 .1 .0)
+    left-count k room (to .result) (to .ensures) (o .last .1 .1 .0) (o .kept .1 .1 .0)
 
 from-words-requires : tie.Need-from-words-requires
 from-words-requires c κs = search needs
 
-array-share-prefix-t : tie.Need-array-share-prefix-t
-array-share-prefix-t c =
+array-share-prefix-transform : tie.Need-array-share-prefix-transform
+array-share-prefix-transform c =
+    let k = c .before .before .before .before .before .before .before .before .before .before .length-of .result in
+    let to = c .before .before .before .before .before .before .before .before .before .start in
     let o = c .before .before .before .before .before .reduce-block in
-    left-room (c .before .before .before .before .before .before .before .before .before .before .length-of .result) room (c .before .before .before .before .before .before .before .before .before .start .result) (c .before .before .before .before .before .before .before .before .before .start .ensures) (o .last .1 .1 .1 .0) (o .kept .1 .1 .1 .0)
+    left-room k room (to .result) (to .ensures) (o .last .1 .1 .1 .0) (o .kept .1 .1 .1 .0)
 
 slice-aggregate-from-words-2 : tie.Need-slice-aggregate-from-words-2
 slice-aggregate-from-words-2 c =
+    let k = c .before .before .before .before .before .before .before .before .before .before .before .length-of .result in
+    let to = c .before .before .before .before .before .before .before .before .before .before .start in
     let o = c .before .before .before .before .before .before .reduce-block in
-    left-count (c .before .before .before .before .before .before .before .before .before .before .before .length-of .result) room (c .before .before .before .before .before .before .before .before .before .before .start .result) (c .before .before .before .before .before .before .before .before .before .before .start .ensures) (o .last .1 .1 .1 .0) (o .kept .1 .1 .1 .0)
+    left-count k room (to .result) (to .ensures) (o .last .1 .1 .1 .0) (o .kept .1 .1 .1 .0)
 
 from-words-requires-2 : tie.Need-from-words-requires-2
 from-words-requires-2 c κs = search needs
@@ -100,16 +108,16 @@ row-reduce-with-transform-spec =
     slice-aggregate-start
     length-of-requires
     start-requires
-    array-borrow-prefix-a
+    array-borrow-prefix-rows
     slice-aggregate-reduce-block
-    array-borrow-prefix-t
+    array-borrow-prefix-transform
     slice-aggregate-reduce-block-2
     slice-aggregate-reduce-block-3
     reduce-block-requires
-    array-share-prefix-a
+    array-share-prefix-rows
     slice-aggregate-from-words
     from-words-requires
-    array-share-prefix-t
+    array-share-prefix-transform
     slice-aggregate-from-words-2
     from-words-requires-2
     returns)

@@ -1,8 +1,8 @@
 -- A column's step where all rows stand in one list, and what words that a matrix was reduced in hold.
 -- Assumes nothing.
 use mathlib.Core.Path.{_≡_}
-use mathlib.Core.List.{List, [], _∷_, map}
-use Prim.Native.Nat.{ℕ, zero, suc, _%_}
+use mathlib.Core.List.{List, map}
+use Prim.Native.Nat.{ℕ, _%_}
 use lib.ListN.{take, drop, getD, set}
 use Rattle.binar.specs.Bits.{bit}
 use Rattle.binar.specs.Rows.{rowBound}
@@ -17,15 +17,13 @@ halves p ps l = record { up = take p l; down = drop p l; pivots = ps }
 abbrev pub swapped : {A : Type 0} → A → ℕ → ℕ → List A → List A
 swapped d p j l = set (set l p (getD l j d)) j (getD l p d)
 
--- every row but row p changed
-unfoldable pub others : {A : Type 0} → (A → A) → ℕ → List A → List A
-others f p [] = []
-others f zero (y ∷ ys) = y ∷ map f ys
-others f (suc p) (y ∷ ys) = f y ∷ others f p ys
+-- rows beside those of the transform: x added to each that has column c
+abbrev pub cleared : ℕ → ℕ × ℕ → List (ℕ × ℕ) → List (ℕ × ℕ)
+cleared c x l = map (clear (0, 0) addBoth (λ a. bit c (a .0)) x) l
 
--- rows beside those of the transform, column c cleared from every row but row p
+-- column c cleared from every row but row p
 abbrev pub swept : ℕ → ℕ → List (ℕ × ℕ) → List (ℕ × ℕ)
-swept c p l = others (clear (0, 0) addBoth (λ a. bit c (a .0)) (getD l p (0, 0))) p l
+swept c p l = set (cleared c (getD l p (0, 0)) l) p (getD l p (0, 0))
 
 -- the rank, rows, transform (as far as a row has columns) and pivots of M reduced by its first m columns
 abbrev pub ReducedIn : ℕ → List ℕ → ℕ → List ℕ → List ℕ → List ℕ → Type 0
