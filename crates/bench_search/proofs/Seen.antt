@@ -3,11 +3,11 @@
 use mathlib.Core.Path.{_≡_, refl, sym, ap, _∙_}
 use mathlib.Core.List.{List}
 use Prim.Native.Nat.{ℕ}
-use Rattle.search.specs.declared.Ending.{Ending}
-use Rattle.search.specs.declared.Ending.the-variants.{Found, Failed, Spent}
+use Rattle.triangular.specs.declared.Ending.{Ending}
+use Rattle.triangular.specs.declared.Ending.the-variants.{Found, Failed, Spent}
 use Rattle.triangular.specs.Search.{Verdict}
-use Rattle.search.specs.Endings.{verdictOf}
-use Rattle.search.proofs.Budgets.{says-found, says-failed, says-spent}
+use Rattle.triangular.specs.Readings.{verdictOf}
+use Rattle.triangular.proofs.Budgets.{says-found, says-failed, says-spent}
 use Rattle.bench_search.specs.Looks.{looksAt}
 
 pub seen-looks : (e : Ending) (k : ℕ) (l : List ℕ) (v : Verdict) → verdictOf e k l ≡ v → k ≡ looksAt v

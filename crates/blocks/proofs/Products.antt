@@ -12,7 +12,7 @@ use borrow.Author.Tests.{ltb-true, ltb-false, eqb-false}
 use lib.ListN.{length, getD, length-map}
 use Rattle.binar.specs.Bits.{_⊻_, select, digit, odd, bit, _⊕_, dot}
 use Rattle.binar.specs.Rows.{width, rowBound, lowest}
-use Rattle.binar.proofs.Digits.{digit-lt, odd-digit, half-digit, odd-zero, odd-one, odd-double, odd-sum, half-sum, bit-suc}
+use Rattle.binar.proofs.Digits.{digit-lt, same-digits, odd-digit, half-digit, odd-zero, odd-one, odd-double, odd-sum, half-sum, bit-suc}
 use Rattle.binar.proofs.Sums.{bxor-comm, zero-sum, sum-zero, sum-self, sum-swap, sum-lt, by-parts, bit-zero-is-odd}
 use Rattle.binar.proofs.Dots.{dot-step, dot-comm, zero-dot, dot-zero, sum-dot}
 use Rattle.binar.proofs.Ones.{lowest-one, bit-le, sum-unit}
@@ -100,6 +100,16 @@ dot-times (v ∷ M) c x =
     ∙ ap₂ _⊻_ (dot-times M (c / 2) x) (select-dot (odd c) v x ∙ ap (λ t. odd c && t) (dot-comm v x))
     ∙ bxor-comm (dot (c / 2) (dots M x)) (odd c && dot x v)
     ∙ sym (dot-step c (dots M x * 2 + digit (dot x v)) ∙ ap₂ (λ s t. (odd c && s) ⊻ dot (c / 2) t) (odd-digit (dot x v) (dots M x)) (half-digit (dot x v) (dots M x)))
+
+pub dots-sum : (B : List ℕ) (x y : ℕ) → dots B (x ⊕ y) ≡ dots B x ⊕ dots B y
+unfolding dots
+dots-sum [] x y = sym (zero-sum 0)
+dots-sum (b ∷ B) x y =
+    let p = dots B x * 2 + digit (dot x b) in
+    let q = dots B y * 2 + digit (dot y b) in
+    same-digits (dots B (x ⊕ y) * 2 + digit (dot (x ⊕ y) b)) (p ⊕ q)
+    (odd-digit (dot (x ⊕ y) b) (dots B (x ⊕ y)) ∙ sum-dot x y b ∙ sym (odd-sum p q ∙ ap₂ _⊻_ (odd-digit (dot x b) (dots B x)) (odd-digit (dot y b) (dots B y))))
+    (half-digit (dot (x ⊕ y) b) (dots B (x ⊕ y)) ∙ dots-sum B x y ∙ sym (half-sum p q ∙ ap₂ _⊕_ (half-digit (dot x b) (dots B x)) (half-digit (dot y b) (dots B y))))
 
 pub dots-lt : (M : List ℕ) (v : ℕ) → dots M v < 2 ^ length M
 unfolding dots

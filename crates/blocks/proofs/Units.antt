@@ -1,13 +1,20 @@
 -- The unit rows: how many, where each stands, their bound, their parts, and what they make of a matrix.
 -- Assumes nothing.
 use mathlib.Core.Path.{_≡_, refl, sym, ap, ap₂, _∙_, fun-ext}
+use mathlib.Core.Bool.{_&&_, and-false}
 use mathlib.Core.List.{List, [], _∷_, _++_, map, map-map, map-append}
-use Prim.Native.Nat.{ℕ, zero, suc, _+_, _*_, _^_, _≤_, _<_}
-use native.Mathlib.Nat.{pow-suc, mul-one, mul-assoc, zero-add, suc-add, le-of-suc-le-suc, not-suc-le-zero}
+use Prim.Native.Nat.{ℕ, zero, suc, _+_, _*_, _/_, _%_, _^_, _≤_, _<_}
+use native.Mathlib.Nat.{pow-suc, mul-one, mul-assoc, mul-div-cancel, mod-lt, zero-add, suc-add, le-of-suc-le-suc, not-suc-le-zero}
+use native.Mathlib.Numerals.{add-one}
 use native.Mathlib.Omega.{arith}
-use lib.Pow.{pow-pos}
+use lib.Pow.{pow-pos, mod-pow-add}
 use lib.ListN.{length, getD, take, length-map, List·getD-map}
-use Rattle.blocks.specs.Matrices.{times, matmul, units, All}
+use Rattle.binar.specs.Bits.{_⊻_, digit, odd, dot}
+use Rattle.binar.proofs.Digits.{low-digit, odd-double}
+use Rattle.binar.proofs.Dots.{dot-step}
+use Rattle.binar.proofs.Ones.{dot-unit}
+use Rattle.binar.proofs.Sums.{bit-zero-is-odd}
+use Rattle.blocks.specs.Matrices.{times, matmul, units, dots, All}
 use Rattle.blocks.proofs.All.{All·map, All·to-map}
 use Rattle.blocks.proofs.Products.{times-unit, times-double}
 
@@ -71,3 +78,19 @@ take-units zero m h = refl
 take-units (suc k) zero h = absurd (not-suc-le-zero h)
 take-units (suc k) (suc m) h =
     ap (λ (l : List ℕ). 1 ∷ l) (take-map (λ u. u * 2) k (units m) ∙ ap (map (λ u. u * 2)) (take-units k m (le-of-suc-le-suc h)))
+
+-- ---- the dots with the unit rows: as many columns as there are rows
+
+doubled-dots : (M : List ℕ) (v : ℕ) → dots (map (λ u. u * 2) M) v ≡ dots M (v / 2)
+unfolding dots
+doubled-dots [] v = refl
+doubled-dots (u ∷ M) v =
+    ap₂ (λ q b. q * 2 + digit b) (doubled-dots M v)
+    (dot-step v (u * 2) ∙ ap₂ (λ b t. (odd v && b) ⊻ dot (v / 2) t) (odd-double u) (mul-div-cancel u (omega arith)) ∙ ap (λ b. b ⊻ dot (v / 2) u) (and-false (odd v)))
+
+pub dots-units : (k v : ℕ) → dots (units k) v ≡ v % 2 ^ k
+unfolding dots
+dots-units zero v = ap (λ M. dots M v) units-zero ∙ omega (arith, mod-lt v (pow-pos 0))
+dots-units (suc k) v =
+    ap (λ M. dots M v) (units-suc k) ∙ ap₂ (λ q t. q * 2 + t) (doubled-dots (units k) v ∙ dots-units k (v / 2)) (ap digit (dot-unit v 0 ∙ bit-zero-is-odd v) ∙ sym (low-digit v))
+    ∙ sym (ap (λ n. v % 2 ^ n) (sym (add-one k)) ∙ mod-pow-add v k 1)

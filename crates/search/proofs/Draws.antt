@@ -12,12 +12,12 @@ use Rattle.binar.specs.Bits.{dot}
 use Rattle.binar.specs.Rows.{width, lowest}
 use Rattle.blocks.specs.Matrices.{times}
 use Rattle.reduction.specs.Residue.{form}
-use Rattle.search.specs.declared.Ending.{Ending}
+use Rattle.triangular.specs.declared.Ending.{Ending}
 use Rattle.triangular.specs.Spaces.{complement}
 use Rattle.triangular.specs.Search.{failed, afterRest, search, budgeted}
-use Rattle.search.specs.Endings.{verdictOf}
+use Rattle.triangular.specs.Readings.{verdictOf}
 use Rattle.search.specs.inner.Levels.{levels, foundIn, passedAt, gramOf, shrunk}
-use Rattle.search.proofs.Budgets.{drawn-before}
+use Rattle.triangular.proofs.Budgets.{drawn-before}
 use Rattle.search.proofs.Grams.{gram-length}
 use Rattle.search.proofs.Levels.{levels-step, levels-least, levels-behind, front-less, level-rows, back-front, found-back}
 use Rattle.search.proofs.Passing.{first-hit, rest-length, passed-rest, passed-gram}

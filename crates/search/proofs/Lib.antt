@@ -1,5 +1,3 @@
-pub mod Budgets
-pub mod Verdicts
 pub mod Drawing
 pub mod Grams
 pub mod Shrinks

@@ -12,16 +12,16 @@ use lib.Pow.{mod-pow-add}
 use lib.ListN.{length, getD, take, drop, List·getD-append, List·getD-map}
 use lib.Seq.{getD-take, getD-drop, length-take-le, getD-append-add}
 use borrow.Author.Tests.{ltb-true, ltb-false, ne-eqb}
-use Rattle.binar.specs.Bits.{select, _⊕_, bit, odd, dot}
+use Rattle.binar.specs.Bits.{select, _⊕_, bit, dot}
 use Rattle.binar.specs.Rows.{width, rowBound, lowest}
-use Rattle.binar.proofs.Digits.{bit-suc}
+use Rattle.binar.proofs.Digits.{odd-is, bit-suc}
 use Rattle.binar.proofs.Sums.{bit-zero-is-odd, sum-zero}
 use Rattle.binar.proofs.Dots.{dot-sum, dot-zero}
 use Rattle.binar.proofs.Ones.{lowest-one}
 use Rattle.binar.proofs.Widths.{pow-bound}
 use Rattle.blocks.specs.Matrices.{times, dots}
 use Rattle.blocks.proofs.Firsts.{First}
-use Rattle.blocks.proofs.Products.{bit-dots, dots-lt, times-sum, lowest-row}
+use Rattle.blocks.proofs.Products.{dots-sum, bit-dots, dots-lt, times-sum, lowest-row}
 use Rattle.linear.specs.Maps.{Additive}
 use Rattle.linear.proofs.Instances.{𝔹, 𝕎}
 use Rattle.linear.proofs.Maps.{map-at, map-o}
@@ -31,17 +31,16 @@ use Rattle.triangular.specs.Spaces.{complement}
 use Rattle.search.specs.inner.Levels.{keptOr, passedAt, gramOf, shrunk}
 use Rattle.triangular.proofs.Complements.{complement-at, complement-length}
 use Rattle.triangular.proofs.Cores.{form-dot, form-row}
-use Rattle.search.proofs.Grams.{dots-sum, gram-row, gram-drawn, gram-self}
+use Rattle.search.proofs.Grams.{gram-row, gram-drawn, gram-self}
 use Rattle.search.proofs.Shrinks.{shrunk-dots}
 
 -- the digits below the lowest one are zero
 low-zero : (t x i : ℕ) → x % 2 ^ t ≡ 0 → i < t → bit i x ≡ false
-unfolding odd
 low-zero zero x i e h = absurd (omega arith)
 low-zero (suc t) x zero e h =
     let m : x % 2 ^ suc t ≡ (x / 2 % 2 ^ t) * 2 + x % 2 = ap (λ n. x % 2 ^ n) (sym (add-one t)) ∙ mod-pow-add x t 1 in
     let z : x % 2 ≡ 0 = omega arith in
-    bit-zero-is-odd x ∙ ap (λ n. eqb n 1) z
+    bit-zero-is-odd x ∙ odd-is x ∙ ap (λ n. eqb n 1) z
 low-zero (suc t) x (suc i) e h =
     let m : x % 2 ^ suc t ≡ (x / 2 % 2 ^ t) * 2 + x % 2 = ap (λ n. x % 2 ^ n) (sym (add-one t)) ∙ mod-pow-add x t 1 in
     bit-suc i x ∙ low-zero t (x / 2) i (omega arith) (omega arith)

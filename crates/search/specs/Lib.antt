@@ -1,2 +1,1 @@
-pub mod Endings
 pub mod inner

@@ -5,6 +5,7 @@
 // members. Behind them stands, in the same way, the space that the draw passes on.
 use binar::Row;
 use binar::WIDTH;
+use triangular::Ending;
 ghost use mathlib.Core.Path.{_≡_};
 ghost use mathlib.Core.Bool.{true};
 ghost use mathlib.Core.List.{List};
@@ -18,15 +19,8 @@ ghost use Rattle.blocks.specs.Words.{rowsIn, over};
 ghost use Rattle.reduction.specs.Residue.{form};
 ghost use Rattle.triangular.specs.Spaces.{complement, isAlternating};
 ghost use Rattle.triangular.specs.Search.{failed, afterRest, search, budgeted};
-ghost use Rattle.triangular.specs.Readings.{coreIn, basisFound};
-ghost use Rattle.search.specs.Endings.{verdictOf};
+ghost use Rattle.triangular.specs.Readings.{coreIn, verdictOf, basisFound};
 ghost use Rattle.search.specs.inner.Levels.{levels, foundIn, keptOr, passedAt, gramOf, shrunk as shrunkOf};
-
-pub enum Ending {
-    Found,
-    Failed,
-    Spent,
-}
 
 // How a search ended, and how many draws have been taken by then.
 pub struct Ended {

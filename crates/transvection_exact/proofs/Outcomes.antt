@@ -16,11 +16,10 @@ use Rattle.reduction.specs.Residue.{basis, core, form}
 use Rattle.reduction.proofs.Core.{core-length}
 use Rattle.reduction.proofs.Forms.{formOf}
 use Rattle.search.specs.declared.Ended.{Ended}
-use Rattle.search.specs.declared.Ending.the-variants.{Found, Failed, Spent}
+use Rattle.triangular.specs.declared.Ending.the-variants.{Found, Failed, Spent}
 use Rattle.triangular.specs.Search.{found, failed, search, Verdict, ended, spent, budgeted}
-use Rattle.triangular.specs.Readings.{coreIn, basisFound}
-use Rattle.search.specs.Endings.{verdictOf}
-use Rattle.search.proofs.Budgets.{of-ended, says-found, says-failed, says-spent}
+use Rattle.triangular.specs.Readings.{coreIn, verdictOf, basisFound}
+use Rattle.triangular.proofs.Budgets.{of-ended, says-found, says-failed, says-spent}
 use Rattle.triangular.proofs.Complete.{Right, search-right}
 use Rattle.bordered.specs.declared.Bordered.{Bordered}
 use Rattle.bordered.specs.Checks.{borderedList}

@@ -18,7 +18,7 @@ use Rattle.symplectic.specs.Replies.{Reply, refused, unlessRefused, actionQuest
 use Rattle.symplectic.proofs.Questions.{question-2, list-small, passed-size, passed-count, passed-rows, passed-symplectic, list-refused, list-known, reply-refused}
 use Rattle.reduction.specs.Residue.{basis}
 use Rattle.triangular.specs.Search.{Outcome, found, failed, looksOf, endedIf, budgeted}
-use Rattle.search.proofs.Budgets.{budgeted-is}
+use Rattle.triangular.proofs.Budgets.{budgeted-is}
 use Rattle.bordered.specs.Checks.{borderedList}
 use Rattle.bordered.proofs.Verified.{Passed, bordered-passed}
 use Rattle.transvection_exact.specs.NoneShorter.{NoneShorter}

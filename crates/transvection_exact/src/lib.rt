@@ -3,11 +3,11 @@
 use binar::WIDTH;
 use blocks::Block;
 use bordered::Candidate;
-use search::Ending;
 use symplectic::Action;
 use symplectic::Figures;
 use symplectic::MOST_ROWS;
 use symplectic::Question;
+use triangular::Ending;
 ghost use mathlib.Core.Path.{_≡_};
 ghost use Rattle.blocks.specs.Blocks.{rowsOf};
 ghost use Rattle.blocks.specs.Matrices.{matmul};

@@ -11,14 +11,13 @@ use Rattle.blocks.specs.Matrices.{units}
 use Rattle.blocks.specs.Words.{rowsIn, over}
 use Rattle.blocks.proofs.Lent.{lent-same, over-nil}
 use Rattle.reduction.specs.Residue.{form}
-use Rattle.search.specs.declared.Ending.{Ending}
-use Rattle.search.specs.declared.Ending.the-variants.{Found, Failed, Spent}
+use Rattle.triangular.specs.declared.Ending.{Ending}
+use Rattle.triangular.specs.declared.Ending.the-variants.{Found, Failed, Spent}
 use Rattle.triangular.specs.Search.{Verdict, search as searchOf, budgeted}
-use Rattle.triangular.specs.Readings.{coreIn}
-use Rattle.search.specs.Endings.{verdictOf}
+use Rattle.triangular.specs.Readings.{coreIn, verdictOf}
 use Rattle.search.specs.inner.Levels.{foundIn, gramOf}
-use Rattle.search.proofs.Ending.{the-type}
-use Rattle.search.proofs.Verdicts.{found-basis, no-basis, verdict-own}
+use Rattle.triangular.proofs.Ending.{the-type}
+use Rattle.triangular.proofs.Verdicts.{found-basis, no-basis, verdict-own}
 use borrow.Author.Needs.{needs}
 use Rattle.search.proofs.searched.Statement.{statement}
 use Rattle.search.proofs.searched.Tie as tie

@@ -1,13 +1,12 @@
 -- What a search keeps in lent rows, level by level: the members or the Gram matrix of a space, and behind them those of the space that a draw passes on.
 -- Assumes nothing.
 use mathlib.Core.Bool.{Bool, true, false}
-use mathlib.Core.List.{List, [], _∷_}
+use mathlib.Core.List.{List, [], _∷_, map}
 use Prim.Native.Nat.{ℕ, zero, suc, _+_, _/_, _%_, _^_}
 use lib.Dec.{ltb}
 use lib.ListN.{getD, take, drop}
 use Rattle.binar.specs.Bits.{select, _⊕_, bit}
-use Rattle.blocks.specs.Matrices.{times, matmul}
-use Rattle.reduction.specs.Residue.{timesTransposed}
+use Rattle.blocks.specs.Matrices.{times, matmul, dots}
 
 -- the rows of all levels from dimension d down
 unfoldable pub levels : ℕ → ℕ
@@ -21,7 +20,7 @@ foundIn (suc d) w = times (getD w (suc d) 0) (take (suc d) w) ∷ foundIn d (dro
 
 -- the Gram matrix of members B by the core E: bit j of row i is the form of members i and j
 unfoldable pub gramOf : List ℕ → List ℕ → List ℕ
-gramOf E B = timesTransposed (matmul B E) B
+gramOf E B = map (dots B) (matmul B E)
 
 -- ---- what a draw passes on
 

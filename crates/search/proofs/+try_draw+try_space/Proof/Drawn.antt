@@ -11,7 +11,7 @@ use Rattle.blocks.specs.Words.{rowsIn}
 use Rattle.blocks.proofs.Lent.{lent-same, lent-within, lent-rest, lent-back}
 use Rattle.reduction.specs.Residue.{form}
 use Rattle.triangular.specs.Search.{search as searchOf, budgeted}
-use Rattle.search.specs.Endings.{verdictOf}
+use Rattle.triangular.specs.Readings.{verdictOf}
 use Rattle.search.specs.inner.Levels.{levels, foundIn, gramOf}
 use Rattle.search.proofs.Levels.{levels-behind}
 use Rattle.search.proofs.Draws.{Steps, basis-kept, gram-kept, room-b, room-g, child-gram, answer}

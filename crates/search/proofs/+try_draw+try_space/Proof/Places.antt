@@ -14,10 +14,10 @@ use Rattle.blocks.specs.Matrices.{times}
 use Rattle.blocks.specs.Words.{rowsIn}
 use Rattle.blocks.proofs.Products.{times-zero}
 use Rattle.reduction.specs.Residue.{form}
+use Rattle.triangular.specs.declared.Ending.the-variants.{Found, Failed, Spent}
 use Rattle.triangular.specs.Search.{found, ended}
-use Rattle.search.specs.Endings.{verdictOf}
-use Rattle.search.specs.inner.Levels.{gramOf}
-use Rattle.search.proofs.Budgets.{space-empty, space-alternating, space-begun, at-end, at-stop}
+use Rattle.search.specs.inner.Levels.{foundIn, gramOf}
+use Rattle.triangular.proofs.Budgets.{says-found, says-failed, says-spent, space-empty, space-alternating, space-begun, at-end, at-stop}
 use Rattle.search.proofs.Drawing.{ones-last, next-is, next-column, next-drawn}
 use Rattle.search.proofs.Grams.{gram-self}
 use Rattle.search.proofs.Levels.{levels-least, front-get, found-none}
@@ -89,12 +89,11 @@ module _ (t : ℕ) (c : try-space-lts.After-dot (space-claims t) (try-space-at t
 -- ---- before the draws
 
 pub try-space-returns : (t : ℕ) → try-space-lts.Need-returns (space-claims t) (try-space-at t) try-space.Post try-space-Inv-loop try-space-μ-loop
-unfolding verdictOf
 try-space-returns t c =
     let s = c .before .before .before .args in
     let pre = c .before .before .before .pre .1 in (
       pre .3,
-      λ E e. ap (λ l. ended (found l (s .looks))) (found-none (s .d) (rowsIn (s .basis .now)) (c .if1 .taken))
+      λ E e. says-found Found (s .looks) (foundIn (s .d) (rowsIn (s .basis .now))) refl ∙ ap (λ l. ended (found l (s .looks))) (found-none (s .d) (rowsIn (s .basis .now)) (c .if1 .taken))
           ∙ space-empty (form E) (s .budget) (s .looks) (take (s .d) (rowsIn (s .basis .now))) (s .d) (c .if1 .taken) (pre .3),
     )
 
@@ -104,13 +103,12 @@ try-space-is-alternating-requires t c κs =
     (s .pre .1 .0, omega (arith, levels-least (s .args .d), s .pre .1 .2))
 
 pub try-space-returns-2 : (t : ℕ) → try-space-lts.Need-returns-2 (space-claims t) (try-space-at t) try-space.Post try-space-Inv-loop try-space-μ-loop
-unfolding verdictOf
 try-space-returns-2 t c =
     let s = c .before .before .before .before .before .before .args in
     let pre = c .before .before .before .before .before .before .pre .1 in
     let B = take (s .d) (rowsIn (s .basis .now)) in (
       pre .3,
-      λ E e. space-alternating (form E) (s .budget) (s .looks) B (s .d) (pos-of-ne-zero (c .before .before .before .if1 .left)) (sym (c .before .is-alternating .ensures E B e) ∙ c .if2 .taken) (pre .3),
+      λ E e. says-failed Failed (s .looks) (foundIn (s .d) (rowsIn (s .basis .now))) refl ∙ space-alternating (form E) (s .budget) (s .looks) B (s .d) (pos-of-ne-zero (c .before .before .before .if1 .left)) (sym (c .before .is-alternating .ensures E B e) ∙ c .if2 .taken) (pre .3),
     )
 
 pub try-space-sums-requires : (t : ℕ) → try-space-lts.Need-sums-requires (space-claims t) (try-space-at t) try-space.Post try-space-Inv-loop try-space-μ-loop
@@ -138,25 +136,23 @@ try-space-loop-holds t c =
     )
 
 pub try-space-returns-5 : (t : ℕ) → try-space-lts.Need-returns-5 (space-claims t) (try-space-at t) try-space.Post try-space-Inv-loop try-space-μ-loop
-unfolding verdictOf
 try-space-returns-5 t c =
     let at = c .before .before .loop in
     let lo = c .before .before .before .before in
     let s = c .before .before .before .before .before .before .before .before .before .before .before .before .before .before .before .args in (
       at .inv .1,
       λ E e.
-          at-end (form E) (s .budget) (at .spent) (members t lo) (s .d - 1) (val (lo .low-ones .result)) (val (at .c)) _ (at .inv .7 E (fit-in t lo E e))
+          says-failed Failed (at .spent) _ refl ∙ at-end (form E) (s .budget) (at .spent) (members t lo) (s .d - 1) (val (lo .low-ones .result)) (val (at .c)) _ (at .inv .7 E (fit-in t lo E e))
           (ltb-false (val (at .c)) (val (lo .low-ones .result)) (sym (c .before .less .ensures) ∙ c .if3 .left)) (at .inv .1),
     )
 
 pub try-space-returns-3 : (t : ℕ) → try-space-lts.Need-returns-3 (space-claims t) (try-space-at t) try-space.Post try-space-Inv-loop try-space-μ-loop
-unfolding verdictOf
 try-space-returns-3 t c =
     let at = c .before .before .before .before .loop in
     let lo = c .before .before .before .before .before .before in
     let s = c .before .before .before .before .before .before .before .before .before .before .before .before .before .before .before .before .before .args in (
       at .inv .1,
-      λ E e. at-stop (form E) (s .budget) (at .spent) (members t lo) (s .d - 1) (val (lo .low-ones .result)) (val (at .c)) _ (at .inv .7 E (fit-in t lo E e)) (ahead t (c .before)) (c .if4 .taken),
+      λ E e. says-spent Spent (at .spent) _ refl ∙ at-stop (form E) (s .budget) (at .spent) (members t lo) (s .d - 1) (val (lo .low-ones .result)) (val (at .c)) _ (at .inv .7 E (fit-in t lo E e)) (ahead t (c .before)) (c .if4 .taken),
     )
 
 pub try-space-add-row : (t : ℕ) → try-space-lts.Need-add-row (space-claims t) (try-space-at t) try-space.Post try-space-Inv-loop try-space-μ-loop

@@ -14,14 +14,14 @@ use Rattle.blocks.specs.Matrices.{times}
 use Rattle.blocks.specs.Words.{rowsIn}
 use Rattle.blocks.proofs.Lent.{lent-same}
 use Rattle.reduction.specs.Residue.{form}
-use Rattle.search.specs.declared.Ending.{Ending}
-use Rattle.search.specs.declared.Ending.the-variants.{Found, Failed, Spent}
+use Rattle.triangular.specs.declared.Ending.{Ending}
+use Rattle.triangular.specs.declared.Ending.the-variants.{Found, Failed, Spent}
 use Rattle.triangular.specs.Spaces.{complement}
 use Rattle.triangular.specs.Search.{Verdict, failed, afterRest, draws, search as searchOf, budgeted}
-use Rattle.search.specs.Endings.{verdictOf}
+use Rattle.triangular.specs.Readings.{verdictOf}
 use Rattle.search.specs.inner.Levels.{foundIn, gramOf}
-use Rattle.search.proofs.Ending.{the-type}
-use Rattle.search.proofs.Budgets.{at-left, at-kept, at-failed}
+use Rattle.triangular.proofs.Ending.{the-type}
+use Rattle.triangular.proofs.Budgets.{at-left, at-kept, at-failed}
 use Rattle.search.proofs.Levels.{front-less}
 use Rattle.search.proofs.try_space.Reads as try-space
 use Rattle.search.proofs.+try_draw+try_space.Lts-try_space as try-space-lts

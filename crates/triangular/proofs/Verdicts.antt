@@ -4,11 +4,10 @@ use mathlib.Core.Path.{_≡_, sym, ap, _∙_}
 use mathlib.Core.Logic.{_⊎_, ⊎-elim}
 use mathlib.Core.List.{List, []}
 use Prim.Native.Nat.{ℕ}
-use Rattle.search.specs.declared.Ending.{Ending}
-use Rattle.search.specs.declared.Ending.the-variants.{Found, Failed, Spent}
+use Rattle.triangular.specs.declared.Ending.{Ending}
+use Rattle.triangular.specs.declared.Ending.the-variants.{Found, Failed, Spent}
 use Rattle.triangular.specs.Search.{Verdict}
-use Rattle.triangular.specs.Readings.{basisFound}
-use Rattle.search.specs.Endings.{verdictOf}
+use Rattle.triangular.specs.Readings.{verdictOf, basisFound}
 
 -- the list of an ending that found one is the verdict's; of another it makes no difference
 module _ (k : ℕ) (l : List ℕ) (v : Verdict) where

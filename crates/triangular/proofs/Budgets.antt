@@ -11,12 +11,12 @@ use native.Mathlib.Omega.{arith}
 use borrow.Author.Tests.{lt-leb, le-leb, leb-true, leb-false}
 use lib.Dec.{leb}
 use Rattle.blocks.specs.Matrices.{times}
-use Rattle.search.specs.declared.Ending.{Ending}
-use Rattle.search.specs.declared.Ending.the-variants.{Found, Failed, Spent}
+use Rattle.triangular.specs.declared.Ending.{Ending}
+use Rattle.triangular.specs.declared.Ending.the-variants.{Found, Failed, Spent}
 use Rattle.triangular.specs.Spaces.{complement, isAlternating}
 use Rattle.triangular.specs.Search.{Outcome, found, failed, unlessAlternating, afterRest, draw, draws, search, looksOf, Verdict, ended, spent, endedIf, budgeted}
-use Rattle.search.specs.Endings.{verdictOf}
+use Rattle.triangular.specs.Readings.{verdictOf}
 use Rattle.triangular.proofs.Looks.{Up, after-up, draw-up, draws-up, search-up}
 
 -- ---- the verdict
 
