@@ -1,6 +1,7 @@
 // The greedy list: turns that undo an action, each found in the matrix I + F, laid in reverse into lent words.
 // In the source: transvection.rs, `clifford_to_transvections`, `symplectic_residue_matrix`, `next_transvection`.
 use binar::Row;
+use symplectic::Action;
 use symplectic::Listing;
 ghost use mathlib.Core.Path.{_≡_};
 ghost use mathlib.Core.List.{reverse};
@@ -8,9 +9,9 @@ ghost use Prim.Native.Nat.{_+_, _*_, _^_, _≤_, _<_};
 ghost use lib.ListN.{length, take};
 ghost use Rattle.binar.specs.Bits.{_⊕_};
 ghost use Rattle.binar.specs.Rows.{width, val};
-ghost use Rattle.blocks.specs.Words.{rowsOfWords, laid, rowsIn, over};
+ghost use Rattle.blocks.specs.Words.{laid, rowsIn, over};
 ghost use Rattle.symplectic.specs.Turns.{pairing, identityPlus};
-ghost use Rattle.symplectic.specs.Actions.{maxQubits};
+ghost use Rattle.symplectic.specs.Actions.{maxQubits, qubits, matrix};
 ghost use Rattle.symplectic.specs.Replies.{Replays};
 ghost use Rattle.symplectic.specs.Answers.{figuresOf};
 ghost use Rattle.transvection.specs.Greedy.{firstNonzero, nextTransvection, recorded, greedyList, greedyReply};
@@ -165,31 +166,30 @@ fn store_reversed(n: u64, kept: &[u64], count: usize, out: &mut [u64])
     }
 }
 
-// The rows of n qubits that lent words hold, put into words for work.
-fn load(n: u64, words: &[u64], w: &mut [u64])
-    requires { ⌜ length (rowsOfWords n (now words)) ≤ length (rowsIn (now w)) ⌝ }
-    ensures { λ _. ⌜ rowsIn (now (w .exit)) ≡ over (rowsOfWords n (now (words .entry))) (rowsIn (now (w .entry))) ⌝ }
+// The rows of an action put over words for work.
+fn load(a: Action, w: &mut [u64])
+    requires { ⌜ qubits a + qubits a ≤ length (rowsIn (now w)) ⌝ }
+    ensures { λ _. ⌜ rowsIn (now (w .exit)) ≡ over (matrix a) (rowsIn (now (w .entry))) ⌝ }
 {
-    let count = words.len();
+    let n = symplectic::qubits_of(a);
+    let count = n + n;
     for i in 0..count {
-        let v = binar::of_word(words[i]);
-        blocks::put(w, i, v);
+        blocks::put(w, i, a.rows[i]);
     }
 }
 
-// The greedy list of the lent action, laid into lent words; how many turns it has.
-fn lay_list(n: u64, words: &[u64], out: &mut [u64]) -> usize
-    requires { ⌜ (n ≤ maxQubits) × (length (rowsOfWords n (now words)) ≡ n + n) × (4 * n + 2 ≤ length (now out)) ⌝ }
-    ensures { λ r. ⌜ (r ≡ length (greedyList n (rowsOfWords n (now (words .entry)))))
-        × (now (out .exit) ≡ laid n (greedyList n (rowsOfWords n (now (words .entry)))) (now (out .entry))) ⌝ }
+// The greedy list of an action, laid into lent words; how many turns it has.
+fn lay_list(a: Action, out: &mut [u64]) -> usize
+    requires { ⌜ 4 * qubits a + 2 ≤ length (now out) ⌝ }
+    ensures { λ r. ⌜ (r ≡ length (greedyList (qubits a) (matrix a))) × (now (out .exit) ≡ laid (qubits a) (greedyList (qubits a) (matrix a)) (now (out .entry))) ⌝ }
 {
     let mut w = [0u64; symplectic::MOST_ROWS];
     let mut kept = [0u64; RECORD_ROOM];
-    load(n, words, &mut w);
-    let m = n as usize;
-    let to = blocks::start(&w, m + m);
-    let count = record_turns(n, &mut w[..to], &mut kept);
-    store_reversed(n, &kept, count, out);
+    load(a, &mut w);
+    let n = symplectic::qubits_of(a);
+    let to = blocks::start(&w, n + n);
+    let count = record_turns(n as u64, &mut w[..to], &mut kept);
+    store_reversed(n as u64, &kept, count, out);
     count
 }
 
@@ -208,7 +208,7 @@ pub fn clifford_to_transvections(n: u64, rows: &[u64], out: &mut [u64]) -> Listi
     if out.len() < wanted as usize {
         return Listing::OutputTooShort;
     }
-    let count = lay_list(n, rows, out);
+    let count = lay_list(symplectic::from_words(n, rows), out);
     Listing::Listed {
         count: count as u64,
     }

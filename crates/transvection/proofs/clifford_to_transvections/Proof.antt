@@ -1,14 +1,18 @@
 -- `clifford_to_transvections` refuses by the first question that is answered no, by `listing-early` and `listing-short`; else the greedy list is laid,
 -- by `listing-answer`.
 -- Assumes nothing.
-use mathlib.Core.Path.{_≡_}
-use Prim.Native.Nat.{_≤_}
+use mathlib.Core.Path.{_≡_, ap₂, _∙_}
+use mathlib.Core.List.{List}
+use Prim.Native.Nat.{ℕ, _≤_}
 use native.Mathlib.Omega.{arith}
-use Rattle.blocks.specs.Words.{rowsOfWords}
-use Rattle.symplectic.specs.Actions.{maxQubits}
+use lib.ListN.{length}
+use Rattle.blocks.specs.Words.{rowsOfWords, laid}
+use Rattle.symplectic.specs.Actions.{maxQubits, qubits, matrix}
 use Rattle.symplectic.specs.Replies.{actionQuestions}
+use Rattle.symplectic.proofs.Arrays.{loaded}
 use Rattle.symplectic.proofs.Questions.{passed-size, passed-count}
 use Rattle.symplectic.proofs.Listings.{listing-passed, listing-early, listing-short, listing-answer}
+use Rattle.transvection.specs.Greedy.{greedyList}
 use Rattle.transvection.proofs.Replied.{greedy-call}
 use borrow.Author.Needs.{needs}
 use Rattle.transvection.proofs.clifford_to_transvections.Statement.{statement}
@@ -49,19 +53,30 @@ returns-2 c =
     let s = c .before .before .before .before .before .before .before .args in
     listing-short (greedy-call (s .n) (s .rows .now) (s .out .now)) (passed (c .before)) (omega arith)
 
-lay-list-requires : tie.Need-lay-list-requires
-lay-list-requires c κs =
+from-words-requires : tie.Need-from-words-requires
+from-words-requires c κs = search needs
+
+-- what was loaded is the lent action
+same : (c : tie.After-from-words) → let s = c .before .before .before .before .before .before .before .before .args in (qubits (c .from-words .result) ≡ s .n) × (matrix (c .from-words .result) ≡ rowsOfWords (s .n) (s .rows .now))
+same c =
     let s = c .before .before .before .before .before .before .before .before .args in
-    (few (c .before .before), passed-count (s .n) (rowsOfWords (s .n) (s .rows .now)) (passed (c .before .before)), omega arith)
+    let F = rowsOfWords (s .n) (s .rows .now) in
+    let t = c .before .before in
+    loaded (c .from-words .result) (s .n) F (few t) (passed-count (s .n) F (passed t)) (c .from-words .ensures .0) (c .from-words .ensures .1)
+
+lay-list-requires : tie.Need-lay-list-requires
+lay-list-requires c κs = omega (arith, same (c .before) .0)
 
 same-length : tie.Need-same-length
 same-length c = search needs
 
 returns-3 : tie.Need-returns-3
 returns-3 c =
-    let s = c .before .before .before .before .before .before .before .before .before .before .before .args in
+    let s = c .before .before .before .before .before .before .before .before .before .before .before .before .args in
     let t = c .before .before .lay-list in
-    listing-answer (greedy-call (s .n) (s .rows .now) (s .out .now)) (passed (c .before .before .before .before .before)) (omega arith) (t .result) (t .last .1 .1 .0) (t .ensures .0) (t .ensures .1)
+    let e = same (c .before .before .before .before) in
+    listing-answer (greedy-call (s .n) (s .rows .now) (s .out .now)) (passed (c .before .before .before .before .before .before)) (omega arith) (t .result) (t .last .1 .0)
+    (t .ensures .0 ∙ ap₂ (λ (m : ℕ) (F : List ℕ). length (greedyList m F)) (e .0) (e .1)) (t .ensures .1 ∙ ap₂ (λ (m : ℕ) (F : List ℕ). laid m (greedyList m F) (s .out .now)) (e .0) (e .1))
 
 pub clifford-to-transvections-spec : {M : Type 1} → statement M
 clifford-to-transvections-spec =
@@ -74,6 +89,7 @@ clifford-to-transvections-spec =
     mul-wanted
     add-wanted
     returns-2
+    from-words-requires
     lay-list-requires
     same-length
     returns-3)

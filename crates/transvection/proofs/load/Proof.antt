@@ -1,55 +1,62 @@
 -- `load` puts the rows over others one by one, by `over-next` and `over-end`.
 -- Assumes nothing.
-use mathlib.Core.Path.{_≡_, refl, sym, _∙_}
+use mathlib.Core.Path.{_≡_, refl, _∙_}
 use mathlib.Core.List.{_++_}
-use Prim.Native.Nat.{_-_, _≤_, _<_}
+use Prim.Native.Nat.{_+_, _-_, _≤_, _<_}
 use native.Mathlib.Omega.{arith}
 use lib.ListN.{length, take, drop}
-use Rattle.blocks.specs.Words.{rowsOfWords, rowsIn}
-use Rattle.blocks.proofs.Values.{rows-count, rows-word}
+use Rattle.blocks.specs.Words.{rowsIn}
+use Rattle.blocks.proofs.Values.{unmapped}
 use Rattle.blocks.proofs.Lent.{over-next, over-end}
+use Rattle.symplectic.specs.Actions.{mostRows, qubits, matrix}
+use Rattle.symplectic.proofs.Arrays.{qubits-le, matrix-get, matrix-length}
 use borrow.Author.Needs.{needs}
 use Rattle.transvection.proofs.load.Statement.{statement}
 use Rattle.transvection.proofs.load.Tie as tie
 
 abbrev Inv-loop : tie.InvT-loop
-Inv-loop n words w₀ count i₀ w i =
-    (i ≤ count) × (length w ≡ length w₀) × (rowsIn w ≡ take i (rowsOfWords n words) ++ drop i (rowsIn w₀))
+Inv-loop w₀ a n count i₀ w i = (i ≤ count) × (length w ≡ length w₀) × (rowsIn w ≡ take i (matrix a) ++ drop i (rowsIn w₀))
 
 abbrev μ-loop : tie.MeasureT-loop
-μ-loop n words w₀ count i₀ w i = count - i
+μ-loop w₀ a n count i₀ w i = count - i
+
+size : (c : tie.Start Inv-loop μ-loop) → length (matrix (c .args .t1)) ≡ qubits (c .args .t1) + qubits (c .args .t1)
+size c = let long : length (c .args .t1 .rows) ≡ mostRows = search (needs, unmapped) in matrix-length (c .args .t1) long
+
+qubits-of-requires : tie.Need-qubits-of-requires Inv-loop μ-loop
+qubits-of-requires c κs = search needs
+
+add-count : tie.Need-add-count Inv-loop μ-loop
+add-count c = omega (arith, c .qubits-of .ensures, qubits-le (c .before .before .args .t1))
 
 loop-holds : tie.Need-loop-holds Inv-loop μ-loop
 loop-holds c = (search needs, refl, refl)
 
-mul-of-word : tie.Need-mul-of-word Inv-loop μ-loop
-mul-of-word c = search needs
+mul-put : tie.Need-mul-put Inv-loop μ-loop
+mul-put c = omega (arith, qubits-le (c .before .before .before .before .before .args .t1), c .before .before .before .qubits-of .ensures, c .before .loop-test .taken)
 
-shared-slice-read-of-word : tie.Need-shared-slice-read-of-word Inv-loop μ-loop
-shared-slice-read-of-word c = search needs
-
-of-word-requires : tie.Need-of-word-requires Inv-loop μ-loop
-of-word-requires c κs = search needs
+element-copy-out-put : tie.Need-element-copy-out-put Inv-loop μ-loop
+element-copy-out-put c = let s = c .before .before .before .before .before .args in omega (arith, qubits-le (s .t1), c .before .before .before .qubits-of .ensures, c .before .loop-test .taken)
 
 put-requires : tie.Need-put-requires Inv-loop μ-loop
 put-requires c κs = search needs
 
 add-i : tie.Need-add-i Inv-loop μ-loop
-add-i c = search needs
+add-i c = omega (arith, qubits-le (c .before .before .before .before .before .before .before .before .before .args .t1), c .before .before .before .before .before .before .before .qubits-of .ensures, c .before .before .before .before .before .loop-test .taken)
 
 loop-less : tie.Need-loop-less Inv-loop μ-loop
 loop-less c = search needs
 
 loop-again : tie.Need-loop-again Inv-loop μ-loop
 loop-again c =
-    let s = c .before .before .before .before .before .before .before .before .before .before .args in
-    let at = c .before .before .before .before .before .before .before .loop in
-    let rows = rowsOfWords (s .n) (s .words .now) in
-    let h : at .i < length rows = omega (arith, rows-count (s .n) (s .words .now)) in (
+    let s = c .before .before .before .before .before .before .before .before .before .args in
+    let at = c .before .before .before .before .before .before .loop in
+    let q = c .before .before .before .before .before .before .before .qubits-of .ensures in
+    let h : at .i < qubits (s .t1) + qubits (s .t1) = omega (arith, q, c .before .before .before .before .before .loop-test .taken) in
+    let many = size (c .before .before .before .before .before .before .before .before .before) in (
       search needs,
       search needs,
-      c .before .before .put .ensures ∙ over-next rows (rowsIn (s .w .now)) (rowsIn (at .w)) (at .i) _ h (omega (arith, c .before .before .before .before .before .before .before .before .before .before .pre)) (at .inv .2)
-          (c .before .before .before .before .of-word .ensures ∙ sym (rows-word (s .n) (s .words .now) (at .i))),
+      c .before .before .put .ensures ∙ over-next (matrix (s .t1)) (rowsIn (s .w .now)) (rowsIn (at .w)) (at .i) _ (omega (arith, many)) (omega (arith, c .before .before .before .before .before .before .before .before .before .pre)) (at .inv .2) (matrix-get (s .t1) (at .i) h),
     )
 
 same-length : tie.Need-same-length Inv-loop μ-loop
@@ -59,7 +66,7 @@ returns : tie.Need-returns Inv-loop μ-loop
 returns c =
     let s = c .before .before .before .before .args in
     let at = c .before .loop in
-    at .inv .2 ∙ over-end (rowsOfWords (s .n) (s .words .now)) (rowsIn (s .w .now)) (at .i) (omega (arith, rows-count (s .n) (s .words .now), c .before .before .before .before .pre))
+    at .inv .2 ∙ over-end (matrix (s .t1)) (rowsIn (s .w .now)) (at .i) (omega (arith, size (c .before .before .before .before), c .before .before .qubits-of .ensures, c .before .before .before .before .pre))
 
 pub load-spec : {M : Type 1} → statement M
 load-spec =
@@ -67,10 +74,11 @@ load-spec =
     (tie.spec
     Inv-loop
     μ-loop
+    qubits-of-requires
+    add-count
     loop-holds
-    mul-of-word
-    shared-slice-read-of-word
-    of-word-requires
+    mul-put
+    element-copy-out-put
     put-requires
     add-i
     loop-less
