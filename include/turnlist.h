@@ -21,7 +21,7 @@
  *     that length is 0 the pointer is not followed, and may be null. count, looks and chosen are never null.
  *   - What is lent for writing (out, count, looks, chosen) overlaps nothing else that is lent, and no other thread
  *     touches it during the call. What is lent for reading is not written during the call, and may overlap.
- *   - The thread has stack to spare: 512 KiB are enough for turnlist_minimal, 16 KiB for the others. tests/stack/run
+ *   - The thread has stack to spare: 128 KiB are enough for turnlist_minimal, 16 KiB for the others. tests/stack/run
  *     measures what they take.
  *
  * The calls keep nothing from one call to the next, so that threads may call at the same time. */
