@@ -4,7 +4,6 @@ use mathlib.Core.Bool.{Bool, true, false, _&&_, not, Bool·beq}
 use mathlib.Core.List.{List, [], _∷_, map}
 use Prim.Native.Nat.{ℕ}
 use Rattle.binar.specs.Bits.{select, _⊕_}
-use Rattle.symplectic.specs.Picks.{addBoth}
 
 -- ---- what a draw passes on
 
@@ -16,11 +15,6 @@ dropOrKeep false m changed kept = m ∷ kept
 unfoldable pub complement : (ℕ → Bool) → List ℕ → List ℕ
 complement f [] = []
 complement f (m ∷ bs) = dropOrKeep (f m) m (map (λ y. y ⊕ select 0 (f y) m) bs) (complement f bs)
-
--- the same steps on members beside their form rows: a pair is a member and its form row, and the test is on the member
-unfoldable pub complementRows : (ℕ → Bool) → List (ℕ × ℕ) → List (ℕ × ℕ)
-complementRows f [] = []
-complementRows f (m ∷ bs) = dropOrKeep (f (m .0)) m (map (λ y. addBoth y (select (0, 0) (f (y .0)) m)) bs) (complementRows f bs)
 
 -- ---- a form that is alternating: zero diagonal, symmetric
 
