@@ -4,7 +4,7 @@ ghost use mathlib.Core.Path.{_≡_};
 ghost use Prim.Native.Nat.{_+_, _-_, _*_, _/_, _%_, _^_, _<_};
 ghost use lib.Bits.{bitOr};
 ghost use lib.Dec.{eqb, ltb};
-ghost use Rattle.binar.specs.Bits.{_⊕_, bit as bitOf, dot as dotOf, weight as weightOf};
+ghost use Rattle.binar.specs.Bits.{_⊕_, select, bit as bitOf, dot as dotOf, weight as weightOf};
 ghost use Rattle.binar.specs.Rows.{val, width, rowBound, unit as unitOf, lowest as lowestOf};
 
 // How many columns a row has.
@@ -57,6 +57,13 @@ pub fn sum(a: Row, b: Row) -> Row
     Row {
         word: a.word ^ b.word,
     }
+}
+
+// a, and b with it where the bit is set.
+pub fn added(a: Row, b: Row, on: bool) -> Row
+    ensures { λ r. ⌜ val r ≡ val a ⊕ select 0 on (val b) ⌝ }
+{
+    if on { sum(a, b) } else { a }
 }
 
 // The columns in which either row has a one.

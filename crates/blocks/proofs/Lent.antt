@@ -1,14 +1,14 @@
--- Words lent for work: the rows of a part of them, of the whole once a part comes back, and rows put over them one by one.
+-- Words lent for work: the rows of a part of them, and of the whole once a part comes back.
 -- Assumes nothing.
 use mathlib.Core.Path.{_≡_, refl, sym, ap, ap₂, _∙_}
 use mathlib.Core.List.{List, [], _∷_, _++_, append-nil}
-use Prim.Native.Nat.{ℕ, zero, suc, _+_, _-_, _≤_, _<_, min}
+use Prim.Native.Nat.{ℕ, zero, suc, _+_, _-_, _≤_, min}
 use native.Mathlib.Nat.{le-refl}
 use native.Mathlib.Omega.{arith}
-use lib.ListN.{length, getD, set, take, drop, length-append, length-drop, length-take, drop-of-length-le}
-use lib.Seq.{take-all, take-at}
-use Rattle.blocks.specs.Words.{rowsOfWords, rowsIn, wordsFor, over}
-use Rattle.blocks.proofs.Values.{take-counted, laid-more}
+use lib.ListN.{length, take, drop, length-drop, length-take, drop-of-length-le}
+use lib.Seq.{take-all}
+use Rattle.blocks.specs.Words.{rowsOfWords, rowsIn, wordsFor}
+use Rattle.blocks.proofs.Values.{take-counted}
 
 -- ---- parts: `to` is where row k begins
 
@@ -65,33 +65,3 @@ lent-few ws = le-refl (length ws)
 pub lent-same : (a b : List ℕ) → length a ≡ length b → length (rowsIn a) ≡ length (rowsIn b)
 unfolding rowsOfWords
 lent-same a b e = e
-
--- ---- rows put over others
-
-pub over-length : (rows out : List ℕ) → length (over rows out) ≡ length out
-unfolding over
-over-length rows out = length-take (length out) (rows ++ drop (length rows) out) ∙ omega (arith, length-append rows (drop (length rows) out), length-drop (length rows) out)
-
--- as many as were put
-pub over-front : (rows out : List ℕ) → length rows ≤ length out → take (length rows) (over rows out) ≡ rows
-unfolding over
-over-front rows out h =
-    ap (take (length rows)) (take-all (length out) (rows ++ drop (length rows) out) (omega (arith, length-append rows (drop (length rows) out), length-drop (length rows) out)))
-    ∙ take-at rows (drop (length rows) out) (length rows) refl
-
-pub over-nil : (out : List ℕ) → over [] out ≡ out
-unfolding over
-over-nil out = take-all (length out) out (le-refl (length out))
-
-pub over-next : (rows out x : List ℕ) (i v : ℕ) → i < length rows → i < length out → x ≡ take i rows ++ drop i out → v ≡ getD rows i 0
-    → set x i v ≡ take (i + 1) rows ++ drop (i + 1) out
-over-next rows out x i v h g is e = ap₂ (λ (y : List ℕ) (u : ℕ). set y i u) is e ∙ laid-more rows out i h g
-
-pub over-end : (rows out : List ℕ) (k : ℕ) → k ≡ min (length rows) (length out) → take k rows ++ drop k out ≡ over rows out
-unfolding over
-over-end [] out zero e = sym (over-nil out)
-over-end [] out (suc k) e = absurd (omega arith)
-over-end (r ∷ rows) [] zero e = refl
-over-end (r ∷ rows) [] (suc k) e = absurd (omega arith)
-over-end (r ∷ rows) (w ∷ out) zero e = absurd (omega arith)
-over-end (r ∷ rows) (w ∷ out) (suc k) e = ap (λ (m : List ℕ). r ∷ m) (over-end rows out k (omega arith))

@@ -4,3 +4,4 @@ pub mod Units
 pub mod Values
 pub mod Firsts
 pub mod Lent
+pub mod Overs

@@ -7,7 +7,7 @@ use native.Mathlib.Nat.{le-of-suc-le-suc, not-suc-le-zero, mod-eq-of-lt, lt-of-l
 use native.Mathlib.Numerals.{add-one}
 use native.Mathlib.Omega.{arith}
 use lib.ListN.{getD, set, length, take, drop, replicate, length-map, length-append, length-take, length-drop, drop-of-length-le}
-use lib.Seq.{take-all, take-length, take-at, take-suc, take-suc-set, set-at, drop-cons, getD-take, append-snoc, length-take-le}
+use lib.Seq.{take-all, take-at, take-suc, take-suc-set, getD-take}
 use lib.Pow.{pow-mono}
 use Rattle.binar.specs.declared.Row.{Row}
 use Rattle.binar.specs.Rows.{width, val}
@@ -17,7 +17,8 @@ use Rattle.blocks.specs.declared.Block.{Block}
 use Rattle.blocks.specs.Blocks.{room, vals, rowsOf}
 use Rattle.blocks.specs.Matrices.{All}
 use Rattle.blocks.specs.inner.Lists.{without}
-use Rattle.blocks.specs.Words.{rowsOfWords, wordOf, wordsOfRows, laid}
+use Rattle.blocks.proofs.Overs.{over-more, over-length, over-end}
+use Rattle.blocks.specs.Words.{over, rowsOfWords, wordOf, wordsOfRows, laid}
 
 -- ---- values
 
@@ -143,36 +144,24 @@ words-get n [] i = refl
 words-get n (r ∷ rows) zero = refl
 words-get n (r ∷ rows) (suc i) = words-get n rows i
 
--- one row more is laid
-pub laid-more : (m l : List ℕ) (i : ℕ) → i < length m → i < length l → set (take i m ++ drop i l) i (getD m i 0) ≡ take (i + 1) m ++ drop (i + 1) l
-laid-more m l i hm hl =
-    let n : length (take i m) ≡ i = length-take-le i m (omega arith) in
-    ap (λ (x : List ℕ). set (take i m ++ x) i (getD m i 0)) (drop-cons l i 0 hl) ∙ set-at (take i m) (getD l i 0) (drop (suc i) l) (getD m i 0) i n
-    ∙ sym (append-snoc (take i m) (getD m i 0) (drop (suc i) l))
-    ∙ ap₂ (λ (x y : List ℕ). x ++ y) (sym (ap (λ (k : ℕ). take k m) (add-one i) ∙ take-suc m i 0 hm)) (ap (λ (k : ℕ). drop k l) (sym (add-one i)))
-
 -- the word of one row more
 pub laid-next : (n : ℕ) (rows l x : List ℕ) (i w v : ℕ) → i < length rows → i < length l → x ≡ take i (wordsOfRows n rows) ++ drop i l → w ≡ wordOf v → v ≡ getD rows i 0
     → set x i w ≡ take (i + 1) (wordsOfRows n rows) ++ drop (i + 1) l
 laid-next n rows l x i w v h g is e f =
     ap₂ (λ (y : List ℕ) (u : ℕ). set y i u) is (e ∙ ap wordOf f ∙ sym (words-get n rows i))
-    ∙ laid-more (wordsOfRows n rows) l i (omega (arith, words-length n rows)) g
+    ∙ over-more 0 (wordsOfRows n rows) l i (omega (arith, words-length n rows)) g
+
+-- they are put over the words
+laid-over : (n : ℕ) (rows out : List ℕ) → over (wordsOfRows n rows) out ≡ laid n rows out
+unfolding laid over
+laid-over n rows out = refl
 
 -- as many rows laid as there are, or as there are words
 pub laid-end : (n : ℕ) (rows out : List ℕ) (k : ℕ) → k ≡ min (length rows) (length out) → take k (wordsOfRows n rows) ++ drop k out ≡ laid n rows out
-unfolding laid wordsOfRows
-laid-end n [] out zero e = sym (take-length out)
-laid-end n [] out (suc k) e = absurd (omega arith)
-laid-end n (r ∷ rows) [] zero e = refl
-laid-end n (r ∷ rows) [] (suc k) e = absurd (omega arith)
-laid-end n (r ∷ rows) (w ∷ out) zero e = absurd (omega arith)
-laid-end n (r ∷ rows) (w ∷ out) (suc k) e = ap (λ (m : List ℕ). wordOf r ∷ m) (laid-end n rows out k (omega arith))
+laid-end n rows out k e = over-end (wordsOfRows n rows) out k (e ∙ ap (λ (m : ℕ). min m (length out)) (sym (words-length n rows))) ∙ laid-over n rows out
 
 pub laid-length : (n : ℕ) (rows out : List ℕ) → length (laid n rows out) ≡ length out
-unfolding laid
-laid-length n rows out =
-    let w = wordsOfRows n rows in
-    length-take (length out) (w ++ drop (length w) out) ∙ omega (arith, length-append w (drop (length w) out), length-drop (length w) out)
+laid-length n rows out = ap length (sym (laid-over n rows out)) ∙ over-length (wordsOfRows n rows) out
 
 -- ---- rows of n qubits, for which a row has columns enough
 

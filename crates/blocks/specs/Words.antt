@@ -23,7 +23,7 @@ laid n rows out = take (length out) (wordsOfRows n rows ++ drop (length (wordsOf
 
 -- ---- words lent for work
 
--- the rows that they hold, each with all columns of a row: as many qubits as these are two for each
+-- the rows that they hold, each with all columns of a row: two for each qubit
 abbrev pub rowsIn : List ℕ → List ℕ
 rowsIn ws = rowsOfWords (width / 2) ws
 

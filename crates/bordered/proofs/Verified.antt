@@ -1,6 +1,6 @@
 -- A bordered list that passed its checks: r + 1 vectors, none zero, none out of width, and their product is F.
 -- Assumes nothing.
-use mathlib.Core.Path.{_≡_, refl, sym, ap, _∙_, subst}
+use mathlib.Core.Path.{_≡_, refl, sym, ap, _∙_}
 use mathlib.Core.Bool.{Bool, true, false, _&&_, not, and-eq-true-iff}
 use mathlib.Core.List.{List, map}
 use mathlib.Core.Option.{Option, none, some}
@@ -14,11 +14,11 @@ use Rattle.blocks.proofs.All.{All·map}
 use Rattle.symplectic.specs.Turns.{allOf, product}
 use Rattle.symplectic.specs.Matches.{matches}
 use Rattle.symplectic.proofs.Lists.{all-true}
-use Rattle.symplectic.proofs.Products.{product-length, product-lt}
+use Rattle.symplectic.proofs.Products.{product-length}
 use Rattle.symplectic.proofs.Matches.{matches-known}
 use Rattle.symplectic.specs.Picks.{when}
 use Rattle.reduction.specs.Residue.{basis, core, form}
-use Rattle.reduction.proofs.Core.{basis-size}
+use Rattle.reduction.proofs.Core.{basis-within}
 use Rattle.bordered.specs.Checks.{vectors, validate, verifiesBordered, checkedList, coreFamily, borderedList}
 
 -- what `verifies_bordered_decomposition` has seen of a list
@@ -71,5 +71,5 @@ bordered-passed n F = checked n F (coreFamily (core n F))
 pub verified-room : (n : ℕ) (F vs : List ℕ) → Verified n F vs → length vs ≤ n + n + 1
 verified-room n F vs v =
     let long = ap length (sym (v .replays)) ∙ product-length n vs in
-    let rank = basis-size n F long (subst (All (λ f. f < 2 ^ (n + n))) (v .replays) (product-lt n vs (v .fits))) in
+    let rank = basis-within n F long in
     omega (arith, v .size)

@@ -126,13 +126,6 @@ fn first_dot(basis: &[u64], n: usize, d: usize, f: Row) -> usize
     d
 }
 
-// y, and m with it where the bit is set.
-fn added(y: Row, m: Row, hit: bool) -> Row
-    ensures { λ r. ⌜ val r ≡ val y ⊕ select 0 hit (val m) ⌝ }
-{
-    if hit { binar::sum(y, m) } else { y }
-}
-
 // Member j, the first that f has a dot with, is dropped and added to each later one that f has a dot with. Those behind it move up by one.
 fn drop_member(basis: &mut [u64], forms: &mut [u64], d: usize, f: Row, j: usize)
     requires { ⌜ (j < d) × (d ≤ width) × (d ≤ length (rowsIn (now basis))) × ((i : ℕ) → i < j → dot (val f) (getD (rowsIn (now basis)) i 0) ≡ false)
@@ -148,8 +141,8 @@ fn drop_member(basis: &mut [u64], forms: &mut [u64], d: usize, f: Row, j: usize)
         let y = blocks::row(basis, n + 1);
         let g = blocks::row(forms, n + 1);
         let hit = binar::dot(f, y);
-        blocks::put(basis, n, added(y, m, hit));
-        blocks::put(forms, n, added(g, mf, hit));
+        blocks::put(basis, n, binar::added(y, m, hit));
+        blocks::put(forms, n, binar::added(g, mf, hit));
     }
 }
 
@@ -157,7 +150,7 @@ fn drop_member(basis: &mut [u64], forms: &mut [u64], d: usize, f: Row, j: usize)
 fn cleared_of_pair(y: Row, f: Row, a: bool, p: Row, b: bool) -> Row
     ensures { λ r. ⌜ val r ≡ val y ⊕ select 0 a (val f) ⊕ select 0 b (val p) ⌝ }
 {
-    added(added(y, f, a), p, b)
+    binar::added(binar::added(y, f, a), p, b)
 }
 
 // Where the n-th member that is neither the first nor the j-th stands.

@@ -6,7 +6,7 @@ use Prim.Native.Nat.{ℕ, zero, suc, _+_, _≤_, _<_, min}
 use native.Mathlib.Omega.{arith}
 use lib.ListN.{length, getD, set, take, drop, length-append, length-drop}
 use lib.Seq.{take-all, take-length, getD-take}
-use Rattle.blocks.proofs.Values.{laid-more}
+use Rattle.blocks.proofs.Overs.{over-more}
 use Rattle.lines.specs.declared.Line.{Line}
 use Rattle.lines.specs.Bytes.{lineRoom, bytesOf, laidBytes}
 use Rattle.lines.proofs.Cuts.{bytes-length}
@@ -17,7 +17,7 @@ pub byte-laid : (l : Line) → length (l .bytes) ≡ lineRoom → (out x : List 
 unfolding bytesOf
 byte-laid l long out x i h g e =
     let counted : i < l .count = omega (arith, bytes-length l long) in
-    ap₂ (λ (y : List ℕ) (v : ℕ). set y i v) e (sym (getD-take (l .count) (l .bytes) i 0 counted)) ∙ laid-more (bytesOf l) out i h g
+    ap₂ (λ (y : List ℕ) (v : ℕ). set y i v) e (sym (getD-take (l .count) (l .bytes) i 0 counted)) ∙ over-more 0 (bytesOf l) out i h g
 
 -- as many bytes laid as there are, or as have room
 pub bytes-laid : (bytes out : List ℕ) (k : ℕ) → k ≡ min (length bytes) (length out) → take k bytes ++ drop k out ≡ laidBytes bytes out

@@ -29,7 +29,7 @@ use Rattle.reduction.specs.Residue.{residue, reduction, basis, transform
 use Rattle.reduction.specs.inner.Plain.{reduced}
 use Rattle.reduction.proofs.Echelon.{Rref}
 use Rattle.reduction.proofs.Reduced.{reduced-indep, reduced-lt, reduced-out, reduced-unique}
-use Rattle.reduction.proofs.Transform.{basis-row-is, basis-transform-lt, basis-reduced, above-rref, rank-plain, rank-length, rank-width}
+use Rattle.reduction.proofs.Transform.{basis-row-is, basis-transform-lt, basis-reduced, above-rref, rank-plain, rank-length}
 use Rattle.reduction.proofs.Forms.{form-transposed, transposed-length}
 
 -- ---- of any action
@@ -151,9 +151,6 @@ module _ (n : ℕ) (F : List ℕ) (size : length F ≡ n + n) where
     basis-lt =
         let h = reduced (n + n) (residue n F) in
         subst (All (λ v. v < 2 ^ (n + n))) (sym (basis-plain n F)) (All·left (λ v. v < 2 ^ (n + n)) (h .up) (h .down) (reduced-lt (n + n) (residue n F) residue-lt))
-
-    pub basis-size : length (basis n F) ≤ n + n
-    basis-size = subst (λ r. r ≤ n + n) (sym (basis-rank n F)) (rank-width (n + n) (residue n F) residue-lt)
 
     -- what the action adds to any vector
     residue-full : (z : ℕ) → InSpan 𝕎 (residue n F) (added n F z)

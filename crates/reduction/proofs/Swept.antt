@@ -2,33 +2,18 @@
 -- Assumes nothing.
 use mathlib.Core.Path.{_≡_, refl, sym, ap, ap₂, _∙_}
 use mathlib.Core.Bool.{Bool, true, false}
-use mathlib.Core.List.{List, _++_, zip, append-nil}
-use Prim.Native.Nat.{ℕ, suc, _+_, _≤_, _<_}
+use mathlib.Core.List.{List, _++_, zip}
+use Prim.Native.Nat.{ℕ, _+_, _≤_, _<_}
+use native.Mathlib.Nat.{le-refl}
 use native.Mathlib.Omega.{arith}
-use native.Mathlib.Numerals.{add-one}
-use lib.ListN.{length, getD, set, take, drop, length-map, drop-of-length-le}
-use lib.Seq.{take-all, take-suc, drop-cons, set-at, getD-at, append-snoc, length-take-le}
+use lib.ListN.{length, getD, set, take, drop, length-map}
 use Rattle.binar.specs.Bits.{select, bit, _⊕_}
+use Rattle.blocks.proofs.Overs.{over-more, over-left, over-whole}
 use Rattle.blocks.proofs.Values.{map-get}
 use Rattle.symplectic.specs.Picks.{addBoth}
 use Rattle.reduction.specs.Columns.{clear}
 use Rattle.reduction.specs.inner.Sweeps.{cleared, swept}
 use Rattle.reduction.proofs.TwoLists.{zip-length, zip-at, zip-set}
-
--- ---- the first i members of m before the others of l
-
-module _ {A : Type 0} (d : A) (m l : List A) (i : ℕ) (h : i < length m) (g : i < length l) where
-  size : length (take i m) ≡ i
-  size = length-take-le i m (omega arith)
-
-  part-at : getD (take i m ++ drop i l) i d ≡ getD l i d
-  part-at = ap (λ x. getD (take i m ++ x) i d) (drop-cons l i d g) ∙ getD-at (take i m) (getD l i d) (drop (suc i) l) d i size
-
-  part-more : set (take i m ++ drop i l) i (getD m i d) ≡ take (i + 1) m ++ drop (i + 1) l
-  part-more =
-      ap (λ x. set (take i m ++ x) i (getD m i d)) (drop-cons l i d g) ∙ set-at (take i m) (getD l i d) (drop (suc i) l) (getD m i d) i size
-      ∙ sym (append-snoc (take i m) (getD m i d) (drop (suc i) l))
-      ∙ ap₂ _++_ (sym (ap (λ k. take k m) (add-one i) ∙ take-suc m i d h)) (ap (λ k. drop k l) (sym (add-one i)))
 
 -- ---- a column cleared
 
@@ -57,12 +42,12 @@ module _ (c v w i : ℕ) (R₀ T₀ : List ℕ) (even : length R₀ ≡ length T
 
     -- row i is as it was
     row-at : (getD R i 0, getD T i 0) ≡ getD all i zeros
-    row-at = sym (zip-at R T 0 0 (sizeR ∙ even ∙ sym sizeT) i) ∙ ap (λ l. getD l i zeros) so-far ∙ part-at zeros (cleared c (v, w) all) all i within inside
+    row-at = sym (zip-at R T 0 0 (sizeR ∙ even ∙ sym sizeT) i) ∙ ap (λ l. getD l i zeros) so-far ∙ over-left zeros (cleared c (v, w) all) all (take i (cleared c (v, w) all) ++ drop i all) i i refl (omega (arith, within)) (le-refl i)
 
     pub cleared-next : (has : Bool) (a b : ℕ) → has ≡ bit c (getD R i 0) → a ≡ getD R i 0 ⊕ select 0 has v → b ≡ getD T i 0 ⊕ select 0 has w
         → zip (set R i a) (set T i b) ≡ take (i + 1) (cleared c (v, w) all) ++ drop (i + 1) all
     cleared-next has a b test ea eb =
-        zip-set R T i a b ∙ ap₂ (λ l x. set l i x) so-far pair ∙ part-more zeros (cleared c (v, w) all) all i within inside
+        zip-set R T i a b ∙ ap₂ (λ l x. set l i x) so-far pair ∙ over-more zeros (cleared c (v, w) all) all i within inside
       where
         pair : (a, b) ≡ getD (cleared c (v, w) all) i zeros
         pair =
@@ -73,9 +58,7 @@ module _ (c v w i : ℕ) (R₀ T₀ : List ℕ) (even : length R₀ ≡ length T
 
   -- all rows
   pub cleared-end : length R₀ ≤ i → take i (cleared c (v, w) all) ++ drop i all ≡ cleared c (v, w) all
-  cleared-end h =
-      ap₂ _++_ (take-all i (cleared c (v, w) all) (omega (arith, long))) (drop-of-length-le all {i = i} (omega (arith, zip-length R₀ T₀ even)))
-      ∙ append-nil (cleared c (v, w) all)
+  cleared-end h = over-whole zeros (cleared c (v, w) all) all i (omega (arith, long)) (omega (arith, zip-length R₀ T₀ even))
 
 -- row p put back
 pub swept-is : (c p v w : ℕ) (R₀ T₀ R T : List ℕ) → length R₀ ≡ length T₀ → v ≡ getD R₀ p 0 → w ≡ getD T₀ p 0 → zip R T ≡ cleared c (v, w) (zip R₀ T₀)

@@ -7,7 +7,6 @@ use Prim.Native.Nat.{ℕ, zero, suc, _+_, _≤_, _<_}
 use native.Mathlib.Nat.{suc-inj, suc-ne-zero}
 use native.Mathlib.Numerals.{add-one}
 use lib.ListN.{length, take, getD, set}
-use lib.Seq.{take-length}
 use Rattle.binar.specs.Bits.{bit}
 use Rattle.symplectic.specs.Picks.{addBoth}
 use Rattle.reduction.specs.Columns.{column}
@@ -68,16 +67,6 @@ module _ {A B : Type 0} where
   above-right (suc p) [] (t ∷ T) e = absurd (suc-ne-zero (length T) (sym e))
   above-right (suc p) (r ∷ R) [] e = absurd (suc-ne-zero (length R) e)
   above-right (suc p) (r ∷ R) (t ∷ T) e = ap (λ l. t ∷ l) (above-right p R T (suc-inj e))
-
-  -- the pairs tell the two lists
-  pub zip-same : (R R′ : List A) (T T′ : List B) → length R ≡ length T → length R′ ≡ length T′ → zip R T ≡ zip R′ T′ → (R ≡ R′) × (T ≡ T′)
-  zip-same R R′ T T′ e e′ is =
-      let same = sym (zip-length R T e) ∙ ap length is ∙ zip-length R′ T′ e′ in (
-        sym (take-length R) ∙ sym (above-left (length R) R T e) ∙ ap (λ l. map (λ a. a .0) (take (length R) l)) is ∙ above-left (length R) R′ T′ e′
-            ∙ ap (λ n. take n R′) same ∙ take-length R′,
-        sym (ap (λ n. take n T) e ∙ take-length T) ∙ sym (above-right (length R) R T e) ∙ ap (λ l. map (λ a. a .1) (take (length R) l)) is
-            ∙ above-right (length R) R′ T′ e′ ∙ ap (λ n. take n T′) (same ∙ e′) ∙ take-length T′,
-      )
 
 abbrev zeros : ℕ × ℕ
 zeros = (0, 0)

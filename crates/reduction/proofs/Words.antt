@@ -1,19 +1,15 @@
--- Rows in words: as many words hold as many rows; the front of a local array that is lent, and what has come back of it.
+-- The front of a local array that is lent, and what has come back of it.
 -- Assumes nothing.
 use mathlib.Core.Path.{_≡_, sym, ap, _∙_}
 use mathlib.Core.List.{List, _++_}
-use Prim.Native.Nat.{ℕ, _/_, _≤_, min}
+use Prim.Native.Nat.{ℕ, _≤_, min}
 use native.Mathlib.Omega.{arith}
-use lib.ListN.{length, take, drop, replicate, length-append, length-replicate}
-use lib.Seq.{take-all, take-at, length-take-le}
-use Rattle.binar.specs.Rows.{width}
+use lib.ListN.{length, take, drop, replicate, length-append}
+use lib.Seq.{take-all, take-at}
 use Rattle.blocks.specs.Blocks.{room}
 use Rattle.blocks.specs.Words.{rowsIn, wordsFor}
-use Rattle.blocks.proofs.Lent.{lent-within, lent-front}
-use Rattle.blocks.proofs.Values.{rows-count}
-
-pub same-count : (x y : List ℕ) → length x ≡ length y → length (rowsIn x) ≡ length (rowsIn y)
-same-count x y e = rows-count (width / 2) x ∙ e ∙ sym (rows-count (width / 2) y)
+use Rattle.blocks.proofs.Lent.{lent-within, lent-same}
+use Rattle.symplectic.proofs.Work.{room-in, part-words, part-rows}
 
 -- ---- an array of zero words, of which `to` words hold k rows
 
@@ -25,10 +21,10 @@ module _ (k most to : ℕ) (at : to ≡ min (wordsFor k) (length {A = ℕ} (repl
   lent-room = lent-within k to words at
 
   pub lent-count : to ≡ length (take to words)
-  lent-count = sym (length-take-le to words lent-room)
+  lent-count = part-words k to words at
 
   pub lent-rows : k ≤ most → length (rowsIn (take to words)) ≡ k
-  lent-rows fits = ap length (lent-front k to words at) ∙ length-take-le k (rowsIn words) (omega (arith, rows-count (width / 2) words, length-replicate {A = ℕ} most 0))
+  lent-rows fits = part-rows k to words at (room-in most k fits)
 
   module _ (left : List ℕ) (kept : length left ≡ length (take to words)) where
     pub left-room : to ≤ length (left ++ drop to words)
@@ -42,4 +38,4 @@ module _ (k most to : ℕ) (at : to ≡ min (wordsFor k) (length {A = ℕ} (repl
 
     -- its rows, where a block has room for them
     pub left-rows : k ≤ most → k ≤ room → take room (rowsIn (take to (left ++ drop to words))) ≡ rowsIn left
-    left-rows fits h = ap (λ (l : List ℕ). take room (rowsIn l)) left-part ∙ take-all room (rowsIn left) (omega (arith, same-count left (take to words) kept, lent-rows fits))
+    left-rows fits h = ap (λ (l : List ℕ). take room (rowsIn l)) left-part ∙ take-all room (rowsIn left) (omega (arith, lent-same left (take to words) kept, lent-rows fits))

@@ -1,7 +1,7 @@
 -- The columns of a Gram matrix once a member is dropped: the dots with what a draw passes on, from those with all members.
 -- Assumes nothing.
 use mathlib.Core.Path.{_≡_, refl, sym, ap, ap₂, _∙_}
-use mathlib.Core.Bool.{Bool, true, false, _&&_, and-false}
+use mathlib.Core.Bool.{Bool, true, false, _&&_, and-comm, and-false}
 use mathlib.Core.List.{List, [], _∷_, map}
 use Prim.Native.Nat.{ℕ, zero, suc, _+_, _*_, _/_, _%_, _^_, zero-le}
 use native.Mathlib.Nat.{add-zero, mul-assoc, mul-comm, mod-lt, pow-suc, zero-lt-suc, not-suc-le-zero}
@@ -15,6 +15,8 @@ use Rattle.binar.proofs.Sums.{bit-sum, bit-of-zero, bit-zero-is-odd, by-parts, 
 use Rattle.blocks.specs.Matrices.{dots}
 use Rattle.blocks.proofs.Firsts.{First, first-later}
 use Rattle.blocks.proofs.Products.{dots-nil, dots-cons, bit-dots}
+use Rattle.linear.proofs.Instances.{𝔹}
+use Rattle.linear.proofs.Sums.{add-zero as bxor-none}
 use Rattle.triangular.specs.Spaces.{dropOrKeep, complement}
 use Rattle.triangular.proofs.Complements.{complement-cons}
 use Rattle.search.specs.inner.Levels.{withoutColumn, shrunk}
@@ -61,16 +63,6 @@ dot-select : (v : ℕ) (b : Bool) (m : ℕ) → dot v (select 0 b m) ≡ b && do
 dot-select v true m = refl
 dot-select v false m = dot-zero v
 
-add-zero-bit : (b : Bool) → b ⊻ false ≡ b
-add-zero-bit true = refl
-add-zero-bit false = refl
-
-and-swap : (a b : Bool) → a && b ≡ b && a
-and-swap true true = refl
-and-swap true false = refl
-and-swap false true = refl
-and-swap false false = refl
-
 -- ---- the dots of v with members to which m is added by f
 
 module _ (f v : ℕ) where
@@ -88,7 +80,7 @@ module _ (f v : ℕ) where
       let q = dots rest v in
       dots-cons z rest v
       ∙ same-digits (q * 2 + digit (dot v z)) (p ⊕ select 0 (dot v m) h)
-      (odd-digit (dot v z) q ∙ dot-sum v y (select 0 (dot f y) m) ∙ ap (λ t. dot v y ⊻ t) (dot-select v (dot f y) m ∙ and-swap (dot f y) (dot v m))
+      (odd-digit (dot v z) q ∙ dot-sum v y (select 0 (dot f y) m) ∙ ap (λ t. dot v y ⊻ t) (dot-select v (dot f y) m ∙ and-comm (dot f y) (dot v m))
       ∙ sym (odd-sum p (select 0 (dot v m) h) ∙ ap₂ _⊻_ (odd-digit (dot v y) (dots bs v)) (odd-select (dot v m) h ∙ ap (λ t. dot v m && t) (odd-digit (dot f y) (dots bs f)))))
       (half-digit (dot v z) q ∙ added-dots m bs
       ∙ sym (half-sum p (select 0 (dot v m) h) ∙ ap₂ _⊕_ (half-digit (dot v y) (dots bs v)) (half-select (dot v m) h ∙ ap (select 0 (dot v m)) (half-digit (dot f y) (dots bs f)))))
@@ -123,7 +115,7 @@ module _ (f v : ℕ) where
         let low : y % 2 ≡ digit (dot v m) =
         low-digit y ∙ ap digit (odd-sum x (select 0 (bit (suc j) x) g)
         ∙ ap₂ _⊻_ (odd-digit (dot v m) (dots bs v)) (odd-select (bit (suc j) x) g ∙ ap (λ t. bit (suc j) x && t) (odd-digit (dot f m) (dots bs f) ∙ off) ∙ and-false (bit (suc j) x))
-        ∙ add-zero-bit (dot v m)) in
+        ∙ bxor-none 𝔹 (dot v m)) in
         ap (λ l. dots l v) (complement-cons (dot f) m bs ∙ ap (λ t. dropOrKeep t m (map (λ y. y ⊕ select 0 (dot f y) m) bs) (complement (dot f) bs)) off)
         ∙ dots-cons m (complement (dot f) bs) v ∙ ap (λ t. t * 2 + digit (dot v m)) rest ∙ sym (without-later j y ∙ ap₂ (λ s t. without j s * 2 + t) half low)
 

@@ -66,13 +66,6 @@ fn sums(w: &mut [u64], d: usize)
     }
 }
 
-// x, and h with it where the bit is set.
-fn added(x: Row, h: Row, hit: bool) -> Row
-    ensures { λ r. ⌜ val r ≡ val x ⊕ select 0 hit (val h) ⌝ }
-{
-    if hit { binar::sum(x, h) } else { x }
-}
-
 // The row x before the dropped one, else the row y behind it, m added where it is hit.
 fn passed(x: Row, y: Row, m: Row, before: bool, hit: bool) -> Row
     ensures { λ r. ⌜ val r ≡ keptOr before (val x) (val y ⊕ select 0 hit (val m)) ⌝ }
@@ -80,7 +73,7 @@ fn passed(x: Row, y: Row, m: Row, before: bool, hit: bool) -> Row
     if before {
         return x;
     }
-    added(y, m, hit)
+    binar::added(y, m, hit)
 }
 
 fn less(i: usize, j: usize) -> bool
@@ -93,7 +86,7 @@ fn less(i: usize, j: usize) -> bool
 fn shrunk(x: Row, h: Row, j: usize) -> Row
     ensures { λ r. ⌜ val r ≡ shrunkOf j (val h) (val x) ⌝ }
 {
-    let y = added(x, h, binar::bit(x, j));
+    let y = binar::added(x, h, binar::bit(x, j));
     let low = binar::low(y, j);
     binar::sum(low, binar::shift_down(binar::sum(y, low), 1))
 }

@@ -1,17 +1,18 @@
 -- The rows of an action: how many there are, and an array whose rows are written one by one from the start.
 -- Assumes nothing.
 use mathlib.Core.Path.{_≡_, refl, sym, ap, ap₂, _∙_}
-use mathlib.Core.List.{List, [], _∷_, _++_, append-nil}
+use mathlib.Core.List.{List, [], _∷_, _++_}
 use Prim.Native.Nat.{ℕ, zero, suc, _+_, _≤_, _<_, min}
 use native.Mathlib.Nat.{le-of-suc-le-suc, not-suc-le-zero}
 use native.Mathlib.Omega.{arith}
-use lib.ListN.{length, getD, set, take, drop, replicate, drop-of-length-le}
-use lib.Seq.{take-all, take-at, getD-take, getD-at, drop-cons, length-take-le}
+use lib.ListN.{length, getD, set, take, drop, replicate}
+use lib.Seq.{take-at, getD-take, length-take-le}
 use Rattle.binar.specs.declared.Row.{Row}
 use Rattle.binar.specs.Rows.{val}
 use Rattle.binar.specs.inner.Blank.{blank}
 use Rattle.blocks.specs.Blocks.{vals}
-use Rattle.blocks.proofs.Values.{vals-get, vals-set, vals-length, laid-more}
+use Rattle.blocks.proofs.Overs.{over-more}
+use Rattle.blocks.proofs.Values.{vals-get, vals-set, vals-length}
 use Rattle.symplectic.specs.declared.Action.{Action}
 use Rattle.symplectic.specs.Actions.{maxQubits, mostRows, capped, qubits, matrix, padded}
 use Rattle.symplectic.specs.Turns.{turn, followed}
@@ -49,17 +50,7 @@ matrix-get a i h = vals-get (a .rows) i ∙ sym (getD-take (qubits a + qubits a)
 pub rows-more : (m l : List ℕ) (rows : List Row) (i : ℕ) (w : Row) → i < length m → i < length l
     → vals rows ≡ take i m ++ drop i l → val w ≡ getD m i 0 → vals (set rows i w) ≡ take (i + 1) m ++ drop (i + 1) l
 rows-more m l rows i w hm hl inv e =
-    vals-set rows i w ∙ ap₂ (λ (x : List ℕ) (v : ℕ). set x i v) inv e ∙ laid-more m l i hm hl
-
--- the next row is not written yet
-pub next-left : (m l x : List ℕ) (i : ℕ) → i < length m → i < length l → x ≡ take i m ++ drop i l → getD x i 0 ≡ getD l i 0
-next-left m l x i hm hl inv =
-    ap (λ (y : List ℕ). getD y i 0) (inv ∙ ap (λ (y : List ℕ). take i m ++ y) (drop-cons l i 0 hl))
-    ∙ getD-at (take i m) (getD l i 0) (drop (suc i) l) 0 i (length-take-le i m (omega arith))
-
--- all of them
-pub all-written : (m l : List ℕ) (i : ℕ) → length m ≤ i → length l ≤ i → take i m ++ drop i l ≡ m
-all-written m l i h g = ap₂ (λ (x y : List ℕ). x ++ y) (take-all i m h) (drop-of-length-le l g) ∙ append-nil m
+    vals-set rows i w ∙ ap₂ (λ (x : List ℕ) (v : ℕ). set x i v) inv e ∙ over-more 0 m l i hm hl
 
 -- ---- the rows of a turn and of lent words
 

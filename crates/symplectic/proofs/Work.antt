@@ -11,7 +11,8 @@ use Rattle.blocks.specs.Matrices.{units}
 use Rattle.blocks.specs.Words.{rowsIn, wordsFor, over}
 use Rattle.blocks.proofs.Units.{units-length}
 use Rattle.blocks.proofs.Values.{rows-count}
-use Rattle.blocks.proofs.Lent.{lent-within, lent-front, over-length, over-front}
+use Rattle.blocks.proofs.Lent.{lent-within, lent-front}
+use Rattle.blocks.proofs.Overs.{over-length, over-front}
 
 -- as many rows as there is room for
 pub room-in : (m k : ℕ) → k ≤ m → k ≤ length (rowsIn (replicate m 0))

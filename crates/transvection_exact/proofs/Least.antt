@@ -14,7 +14,7 @@ use Rattle.blocks.proofs.Products.{times-lt}
 use Rattle.blocks.proofs.Units.{units-length}
 use Rattle.symplectic.specs.Turns.{product, symplectic}
 use Rattle.reduction.specs.Residue.{basis, core, form}
-use Rattle.reduction.proofs.Core.{basis-lt, basis-size}
+use Rattle.reduction.proofs.Core.{basis-lt, basis-within}
 use Rattle.reduction.proofs.Forms.{formOf}
 use Rattle.triangular.specs.Search.{Outcome, found, failed, search}
 use Rattle.triangular.proofs.Complete.{Right, search-right}
@@ -62,7 +62,7 @@ module _ (n : ℕ) (F : List ℕ) (size : length F ≡ n + n) (bounded : All (λ
         replays = h .0;
         least = subst (NoneShorter n F) (sym long) (h .2);
         fits = All·to-map (λ p. times p (basis n F)) (λ v. v < 2 ^ (n + n)) ps (All·any (times-lt (n + n) (basis n F) (basis-lt n F size bounded)) ps);
-        room = omega (arith, basis-size n F size bounded);
+        room = omega (arith, basis-within n F size);
       }
 
   pub bordered-shortest : (vs : List ℕ) → NoneShorter n F (suc (length (basis n F))) → Verified n F vs → ShortestList n F vs

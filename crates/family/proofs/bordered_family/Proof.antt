@@ -9,7 +9,7 @@ use Rattle.binar.specs.Rows.{width}
 use Rattle.blocks.specs.Blocks.{room}
 use Rattle.blocks.specs.Matrices.{matmul, units}
 use Rattle.blocks.specs.Words.{rowsIn}
-use Rattle.blocks.proofs.Lent.{over-length}
+use Rattle.blocks.proofs.Overs.{over-length}
 use Rattle.blocks.proofs.Units.{units-length, matmul-units}
 use Rattle.blocks.proofs.Values.{rows-count, take-counted}
 use Rattle.reduction.specs.Residue.{form}

@@ -8,10 +8,10 @@ use Rattle.binar.specs.Bits.{dot}
 use Rattle.binar.specs.Rows.{val}
 use Rattle.blocks.specs.Matrices.{matmul}
 use Rattle.blocks.specs.Words.{rowsIn}
-use Rattle.blocks.proofs.Lent.{over-next, over-end}
+use Rattle.blocks.proofs.Overs.{over-next, over-end}
 use Rattle.blocks.proofs.Products.{matmul-length}
 use Rattle.triangular.specs.Spaces.{complement}
-use Rattle.family.proofs.Behind.{kept-at}
+use Rattle.blocks.proofs.Overs.{over-left}
 use Rattle.family.proofs.Drops as drops
 use Rattle.family.proofs.Members.{fit-length}
 use native.Mathlib.Omega.{arith}
@@ -104,7 +104,7 @@ loop-again c =
     let hit = c .before .before .before .before .before .before .before .before .before .before .dot in
     let long = size start in
     let more : n + 1 < s .d = omega (arith, p .0, c .before .before .before .before .before .before .before .before .before .before .before .before .before .before .before .loop-test .taken) in
-    let y-is : y ≡ getD b (n + 1) 0 = c .before .before .before .before .before .before .before .before .before .before .before .before .before .row3 .ensures ∙ kept-at (rest start) b (rowsIn (at .basis)) n (n + 1) (at .inv .4) (omega arith) (omega arith) in (
+    let y-is : y ≡ getD b (n + 1) 0 = c .before .before .before .before .before .before .before .before .before .before .before .before .before .row3 .ensures ∙ over-left 0 (rest start) b (rowsIn (at .basis)) n (n + 1) (at .inv .4) (omega arith) (omega arith) in (
       search needs,
       search needs,
       search needs,
@@ -120,7 +120,7 @@ loop-again c =
           ∙ over-next rows g (rowsIn (at .forms)) n (val (c .before .before .before .added2 .result)) (omega arith) (omega (arith, fit-length (s .d) b g E fit (p .2))) (at .inv .5 E fit)
           (drops.drop-row (val (s .f)) (s .d) (s .j) b (p .2) (p .0) (p .3) (p .4) n (at .inv .0) more y m (hit .result) y-is (c .before .before .before .before .before .before .before .before .before .before .before .before .before .before .before .before .before .before .before .row .ensures) (hit .ensures) g E fit
           (val (c .before .before .before .before .before .before .before .before .before .before .before .row4 .result)) (val (c .before .before .before .before .before .before .before .before .before .before .before .before .before .before .before .before .before .row2 .result)) (val (c .before .before .before .added2 .result))
-          (c .before .before .before .before .before .before .before .before .before .before .before .row4 .ensures ∙ kept-at rows g (rowsIn (at .forms)) n (n + 1) (at .inv .5 E fit) (omega arith) (omega arith)) (c .before .before .before .before .before .before .before .before .before .before .before .before .before .before .before .before .before .row2 .ensures) (c .before .before .before .added2 .ensures)),
+          (c .before .before .before .before .before .before .before .before .before .before .before .row4 .ensures ∙ over-left 0 rows g (rowsIn (at .forms)) n (n + 1) (at .inv .5 E fit) (omega arith) (omega arith)) (c .before .before .before .before .before .before .before .before .before .before .before .before .before .before .before .before .before .row2 .ensures) (c .before .before .before .added2 .ensures)),
     )
 
 same-length : tie.Need-same-length Inv-loop μ-loop

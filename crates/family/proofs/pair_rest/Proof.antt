@@ -9,11 +9,12 @@ use Rattle.binar.specs.Bits.{select, _⊕_, dot}
 use Rattle.binar.specs.Rows.{val}
 use Rattle.blocks.specs.Matrices.{times, matmul}
 use Rattle.blocks.specs.Words.{rowsIn}
-use Rattle.blocks.proofs.Lent.{over-next}
+use Rattle.blocks.proofs.Overs.{over-next}
 use Rattle.blocks.proofs.Products.{matmul-length}
 use Rattle.reduction.specs.Residue.{form}
 use Rattle.family.specs.inner.Parts.{othersOf, pairRest}
-use Rattle.family.proofs.Behind.{kept-at, put-all}
+use Rattle.family.proofs.Behind.{put-all}
+use Rattle.blocks.proofs.Overs.{over-left}
 use Rattle.family.proofs.Members.{member-is, row-is, member-form, fit-length}
 use Rattle.family.proofs.Others.{others-length, rest-length, rest-member, rest-row}
 use native.Mathlib.Omega.{arith}
@@ -99,8 +100,8 @@ loop-again c =
           let M = pairRest (form E) (s .j) B in
           let count = rest-length (form E) (s .j) B low hj in
           let more = matmul-length M E in
-          let y-is : y ≡ getD b i 0 = kept-at M b (rowsIn (at .basis)) n i (at .inv .4 E fit .0) (omega arith) (omega arith) in
-          let z-is = kept-at (matmul M E) g (rowsIn (at .forms)) n i (at .inv .4 E fit .1) (omega arith) (omega arith) in
+          let y-is : y ≡ getD b i 0 = over-left 0 M b (rowsIn (at .basis)) n i (at .inv .4 E fit .0) (omega arith) (omega arith) in
+          let z-is = over-left 0 (matmul M E) g (rowsIn (at .forms)) n i (at .inv .4 E fit .1) (omega arith) (omega arith) in
           let y-in = member-is (s .d) b i hi y y-is in
           let f-in = member-is (s .d) b 0 h0 (val (f .result)) (f .ensures) in
           let p-in = member-is (s .d) b (s .j) high (val (p .result)) (p .ensures) in

@@ -8,7 +8,7 @@ use lib.Seq.{getD-take, length-take-le}
 use Rattle.binar.proofs.Ones.{unit-is}
 use Rattle.blocks.specs.Matrices.{units}
 use Rattle.blocks.specs.Words.{rowsIn}
-use Rattle.blocks.proofs.Lent.{over-next, over-end}
+use Rattle.blocks.proofs.Overs.{over-next, over-end}
 use Rattle.blocks.proofs.Units.{units-length, units-at}
 use native.Mathlib.Omega.{arith}
 use borrow.Author.Needs.{needs}

@@ -10,7 +10,7 @@ use Rattle.blocks.proofs.Firsts.{First}
 use Rattle.blocks.proofs.Values.{set-next}
 use Rattle.reduction.specs.inner.Sweeps.{swept}
 use Rattle.reduction.proofs.TwoLists.{both-none, column-next}
-use Rattle.reduction.proofs.Words.{same-count}
+use Rattle.blocks.proofs.Lent.{lent-same}
 use native.Mathlib.Omega.{arith}
 use borrow.Author.Needs.{needs}
 use Rattle.reduction.proofs.by_column.Statement.{statement}
@@ -46,7 +46,7 @@ sweep-requires c κs =
     let s = start .args in
     let x = c .before .before .before .before .before .before .before .before .exchange in
     let y = c .before .before .before .before .exchange2 in
-    same-count (x .last .0) (s .a .now) (x .kept .0) ∙ start .pre .0 ∙ sym (same-count (y .last .0) (s .t .now) (y .kept .0))
+    lent-same (x .last .0) (s .a .now) (x .kept .0) ∙ start .pre .0 ∙ sym (lent-same (y .last .0) (s .t .now) (y .kept .0))
 
 mul-pivots : tie.Need-mul-pivots
 mul-pivots c = search needs

@@ -11,7 +11,7 @@ use Rattle.symplectic.specs.Picks.{addBoth}
 use Rattle.reduction.specs.Columns.{Echelon, unreduced, columns}
 use Rattle.reduction.specs.inner.Sweeps.{halves}
 use Rattle.reduction.proofs.Flat.{columns-step, columns-done}
-use Rattle.reduction.proofs.Words.{same-count}
+use Rattle.blocks.proofs.Lent.{lent-same}
 use native.Mathlib.Omega.{arith}
 use borrow.Author.Needs.{needs}
 use Rattle.reduction.proofs.by_columns.Statement.{statement}
@@ -40,8 +40,8 @@ by-column-requires c κs =
     let at = c .before .before .before .before .loop in
     let start = c .before .before .before .before .before .before .before .before in
     let s = start .args in
-    let size = same-count (at .a) (s .a .now) (at .inv .1) in
-    (size ∙ start .pre .0 ∙ sym (same-count (at .t) (s .t .now) (at .inv .2)), omega (arith, size, at .inv .4), omega (arith, size, at .inv .3, start .pre .1))
+    let size = lent-same (at .a) (s .a .now) (at .inv .1) in
+    (size ∙ start .pre .0 ∙ sym (lent-same (at .t) (s .t .now) (at .inv .2)), omega (arith, size, at .inv .4), omega (arith, size, at .inv .3, start .pre .1))
 
 add-c : tie.Need-add-c Inv-loop μ-loop
 add-c c = search needs
@@ -58,7 +58,7 @@ loop-again c =
       search needs,
       search needs,
       search needs,
-      omega (arith, done .0, same-count (at .a) (s .a .now) (at .inv .1)),
+      omega (arith, done .0, lent-same (at .a) (s .a .now) (at .inv .1)),
       columns-step (0, 0) addBoth (λ i a. bit i (a .0)) (s .m) (at .c) (halves (at .p) (take (at .p) (at .pivots)) (zip (rowsIn (at .a)) (rowsIn (at .t)))) _ _ (omega arith)
           (at .inv .5) (done .1),
     )

@@ -9,7 +9,7 @@ use Rattle.binar.specs.Rows.{val}
 use Rattle.blocks.specs.Words.{rowsIn}
 use Rattle.reduction.specs.inner.Sweeps.{cleared}
 use Rattle.reduction.proofs.Swept.{cleared-next, cleared-end}
-use Rattle.reduction.proofs.Words.{same-count}
+use Rattle.blocks.proofs.Lent.{lent-same}
 use native.Mathlib.Omega.{arith}
 use borrow.Author.Needs.{needs}
 use Rattle.reduction.proofs.clear.Statement.{statement}
@@ -74,8 +74,8 @@ loop-again c =
     let at = c .before .before .before .before .before .before .before .before .before .before .before .before .before .before .before .before .before .before .loop in
     let start = c .before .before .before .before .before .before .before .before .before .before .before .before .before .before .before .before .before .before .before .before .before .before .before .before .before .before in
     let s = start .args in
-    let sizeR = same-count (at .a) (s .a .now) (at .inv .1) in
-    let sizeT = same-count (at .t) (s .t .now) (at .inv .2) in
+    let sizeR = lent-same (at .a) (s .a .now) (at .inv .1) in
+    let sizeT = lent-same (at .t) (s .t .now) (at .inv .2) in
     let has = c .before .before .before .before .before .before .before .before .before .before .before .before .before .before .bit in
     let x = c .before .before .before .before .before .before .before .before .before .before .before .before .before .before .before .row .ensures in
     let y = c .before .before .before .before .before .row2 .ensures in

@@ -6,7 +6,7 @@ use Prim.Native.Nat.{_-_, _≤_, _<_}
 use lib.ListN.{length, take, drop}
 use Rattle.blocks.specs.Blocks.{room, rowsOf}
 use Rattle.blocks.specs.Words.{rowsIn}
-use Rattle.blocks.proofs.Lent.{over-next}
+use Rattle.blocks.proofs.Overs.{over-next}
 use Rattle.blocks.proofs.Values.{rows-fit, rows-get, unmapped}
 use Rattle.reduction.proofs.Loops.{put-all}
 use native.Mathlib.Omega.{arith}

@@ -7,7 +7,7 @@ use lib.ListN.{length, take, drop}
 use lib.Seq.{getD-take, length-take-le}
 use Rattle.blocks.specs.Matrices.{dots}
 use Rattle.blocks.specs.Words.{rowsIn}
-use Rattle.blocks.proofs.Lent.{over-next, over-end}
+use Rattle.blocks.proofs.Overs.{over-next, over-end}
 use Rattle.reduction.specs.Residue.{timesTransposed}
 use Rattle.reduction.proofs.Forms.{transposed-length, transposed-at}
 use native.Mathlib.Omega.{arith}

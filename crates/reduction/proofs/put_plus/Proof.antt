@@ -7,7 +7,7 @@ use lib.ListN.{length, take, drop}
 use Rattle.binar.specs.Bits.{_⊕_}
 use Rattle.binar.proofs.Ones.{unit-is}
 use Rattle.blocks.specs.Words.{rowsIn}
-use Rattle.blocks.proofs.Lent.{over-next}
+use Rattle.blocks.proofs.Overs.{over-next}
 use Rattle.blocks.proofs.Values.{unmapped}
 use Rattle.symplectic.specs.declared.Action.{Action}
 use Rattle.symplectic.specs.Actions.{mostRows, qubits, matrix}

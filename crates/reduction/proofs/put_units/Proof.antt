@@ -8,7 +8,7 @@ use Rattle.binar.specs.Rows.{rowBound}
 use Rattle.binar.proofs.Widths.{unit-kept}
 use Rattle.blocks.specs.Matrices.{units}
 use Rattle.blocks.specs.Words.{rowsIn}
-use Rattle.blocks.proofs.Lent.{over-next}
+use Rattle.blocks.proofs.Overs.{over-next}
 use Rattle.blocks.proofs.Units.{units-length, units-at}
 use Rattle.blocks.proofs.Values.{map-get}
 use Rattle.reduction.proofs.Loops.{put-all}

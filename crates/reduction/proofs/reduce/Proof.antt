@@ -9,7 +9,7 @@ use Rattle.blocks.specs.Matrices.{units}
 use Rattle.blocks.specs.Words.{rowsIn}
 use Rattle.blocks.proofs.Units.{units-length}
 use Rattle.reduction.proofs.Cut.{begun, reduced-in}
-use Rattle.reduction.proofs.Words.{same-count}
+use Rattle.blocks.proofs.Lent.{lent-same}
 use native.Mathlib.Omega.{arith}
 use borrow.Author.Needs.{needs}
 use Rattle.reduction.proofs.reduce.Statement.{statement}
@@ -45,8 +45,8 @@ returns c =
     let M = rowsIn (s .a .now) in
     let even = start .pre .0 in
     let begin = put .ensures ∙ ap (λ (k : ℕ). map (λ u. u % rowBound) (units k)) (sym even) in
-    let long = same-count a (s .a .now) (search needs) in
-    let same = long ∙ even ∙ sym (same-count t (s .t .now) (search needs)) in
+    let long = lent-same a (s .a .now) (search needs) in
+    let same = long ∙ even ∙ sym (lent-same t (s .t .now) (search needs)) in
     reduced-in (s .m) M (o .result) (take (o .result) (o .last .1 .1 .1 .0)) (rowsIn a) (rowsIn t) same
     (o .ensures .1 ∙ begun (s .m) M (rowsIn (put .last .0)) begin) (omega (arith, long, o .ensures .0))
 

@@ -11,7 +11,7 @@ use Rattle.symplectic.specs.Turns.{identityPlus}
 use Rattle.symplectic.proofs.Arrays.{qubits-le, matrix-length}
 use Rattle.reduction.specs.Residue.{residue}
 use Rattle.reduction.proofs.Parts.{residue-from, rank-in-rows, rank-in-transform, rank-wide, rank-end, basis-end, core-end}
-use Rattle.reduction.proofs.Words.{same-count}
+use Rattle.blocks.proofs.Lent.{lent-same}
 use native.Mathlib.Omega.{arith}
 use borrow.Author.Needs.{needs}
 use Rattle.reduction.proofs.residue_core_in.Statement.{statement}
@@ -40,7 +40,7 @@ reduce-requires : tie.Need-reduce-requires
 reduce-requires c κs =
     let start = c .before .before .before .before .before .before .before .before .before .before .before .before .before in
     let put = c .before .before .before .before .before .put-plus in
-    let long = same-count (put .last .1 .1 .0) (start .args .rows .now) (put .kept .1 .1 .0) ∙ start .pre .0 in
+    let long = lent-same (put .last .1 .1 .0) (start .args .rows .now) (put .kept .1 .1 .0) ∙ start .pre .0 in
     (long ∙ sym (start .pre .1), omega (arith, long, start .pre .2))
 
 put-front-requires : tie.Need-put-front-requires

@@ -10,7 +10,7 @@ use Rattle.binar.specs.Rows.{val, width}
 use Rattle.binar.proofs.Ones.{unit-is}
 use Rattle.blocks.specs.Matrices.{units}
 use Rattle.blocks.specs.Words.{rowsIn}
-use Rattle.blocks.proofs.Lent.{over-next, over-front, over-end}
+use Rattle.blocks.proofs.Overs.{over-next, over-front, over-end}
 use Rattle.blocks.proofs.Units.{units-length, units-at}
 use Rattle.triangular.specs.Readings.{coreIn}
 use Rattle.search.specs.inner.Levels.{gramOf}

@@ -8,7 +8,8 @@ use native.Mathlib.Omega.{arith}
 use lib.ListN.{length, take, drop}
 use Rattle.binar.specs.Rows.{val}
 use Rattle.blocks.specs.Words.{rowsIn}
-use Rattle.blocks.proofs.Lent.{lent-few, over-next, over-end}
+use Rattle.blocks.proofs.Lent.{lent-few}
+use Rattle.blocks.proofs.Overs.{over-next, over-end}
 use Rattle.search.specs.inner.Levels.{levels, foundIn}
 use Rattle.search.proofs.Levels.{levels-step, levels-least, found-length, collect-draw, collect-next}
 use borrow.Author.Needs.{needs}

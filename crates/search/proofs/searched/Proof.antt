@@ -9,7 +9,8 @@ use denote.Enum.Declared.{tagOf}
 use lib.ListN.{length}
 use Rattle.blocks.specs.Matrices.{units}
 use Rattle.blocks.specs.Words.{rowsIn, over}
-use Rattle.blocks.proofs.Lent.{lent-same, over-nil}
+use Rattle.blocks.proofs.Lent.{lent-same}
+use Rattle.blocks.proofs.Overs.{over-nil}
 use Rattle.reduction.specs.Residue.{form}
 use Rattle.triangular.specs.declared.Ending.{Ending}
 use Rattle.triangular.specs.declared.Ending.the-variants.{Found, Failed, Spent}

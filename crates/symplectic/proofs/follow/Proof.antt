@@ -3,17 +3,19 @@
 use mathlib.Core.Path.{_≡_, refl, sym, ap, _∙_}
 use mathlib.Core.List.{_++_}
 use Prim.Native.Nat.{ℕ, _-_, _≤_, _<_}
+use native.Mathlib.Nat.{le-refl}
 use native.Mathlib.Omega.{arith}
 use lib.ListN.{length, take, drop}
 use Rattle.binar.specs.Rows.{val}
 use Rattle.blocks.specs.Words.{rowsIn}
-use Rattle.blocks.proofs.Lent.{over-next}
+use Rattle.blocks.proofs.Overs.{over-next}
 use Rattle.symplectic.specs.Actions.{capped}
 use Rattle.symplectic.specs.Turns.{turn, followed}
 use Rattle.symplectic.specs.inner.Vectors.{swapHalves}
 use Rattle.symplectic.proofs.Pairings.{swap-turn}
 use Rattle.symplectic.proofs.Products.{followed-length}
-use Rattle.symplectic.proofs.Arrays.{capped-le, next-left, all-written, followed-at}
+use Rattle.symplectic.proofs.Arrays.{capped-le, followed-at}
+use Rattle.blocks.proofs.Overs.{over-left, over-whole}
 use borrow.Author.Needs.{needs}
 use Rattle.symplectic.proofs.follow.Statement.{statement}
 use Rattle.symplectic.proofs.follow.Tie as tie
@@ -62,7 +64,7 @@ loop-again c =
     let hl : at .i < length l = omega (arith, c .before .before .before .before .before .before .before .before .before .rows-in .ensures) in
     let hm : at .i < length m = omega (arith, followed-length n l (val (s .v))) in
     let swapped = c .before .before .before .before .before .before .before .before .before .before .before .swap-halves .ensures ∙ ap (λ (k : ℕ). swapHalves k (val (s .v))) (c .before .before .before .before .before .before .before .before .before .before .before .before .capped .ensures) in
-    let left = c .before .before .before .before .before .row .ensures ∙ next-left m l (rowsIn (at .w)) (at .i) hm hl (at .inv .2) in (
+    let left = c .before .before .before .before .before .row .ensures ∙ over-left 0 m l (rowsIn (at .w)) (at .i) (at .i) (at .inv .2) (omega (arith, hm)) (le-refl (at .i)) in (
       search needs,
       search needs,
       c .before .before .put .ensures ∙ over-next m l (rowsIn (at .w)) (at .i) _ hm hl (at .inv .2)
@@ -78,7 +80,7 @@ returns c =
     let at = c .before .loop in
     let l = rowsIn (s .w .now) in
     let m = followed (capped (s .n)) l (val (s .v)) in
-    at .inv .2 ∙ all-written m l (at .i) (omega (arith, followed-length (capped (s .n)) l (val (s .v)), c .before .before .rows-in .ensures)) (omega (arith, c .before .before .rows-in .ensures))
+    at .inv .2 ∙ over-whole 0 m l (at .i) (omega (arith, followed-length (capped (s .n)) l (val (s .v)), c .before .before .rows-in .ensures)) (omega (arith, c .before .before .rows-in .ensures))
 
 pub follow-spec : {M : Type 1} → statement M
 follow-spec =

@@ -10,7 +10,7 @@ use Rattle.binar.proofs.Ones.{unit-is}
 use Rattle.blocks.specs.Matrices.{units}
 use Rattle.blocks.specs.Words.{rowsIn}
 use Rattle.blocks.proofs.Units.{units-length, units-at}
-use Rattle.blocks.proofs.Lent.{over-next, over-end}
+use Rattle.blocks.proofs.Overs.{over-next, over-end}
 use Rattle.symplectic.specs.Actions.{capped}
 use Rattle.symplectic.proofs.Arrays.{capped-le}
 use borrow.Author.Needs.{needs}

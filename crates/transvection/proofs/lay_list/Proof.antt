@@ -8,7 +8,8 @@ use lib.ListN.{length, take, replicate}
 use Rattle.binar.specs.Rows.{width}
 use Rattle.blocks.specs.Words.{laid, rowsIn}
 use Rattle.blocks.proofs.Values.{rows-count, unmapped}
-use Rattle.blocks.proofs.Lent.{lent-front, over-front}
+use Rattle.blocks.proofs.Lent.{lent-front}
+use Rattle.blocks.proofs.Overs.{over-front}
 use Rattle.symplectic.specs.Actions.{mostRows, qubits, matrix}
 use Rattle.symplectic.proofs.Arrays.{qubits-le, matrix-length}
 use Rattle.symplectic.proofs.Work.{room-in, part-words}

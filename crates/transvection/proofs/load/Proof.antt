@@ -7,7 +7,7 @@ use native.Mathlib.Omega.{arith}
 use lib.ListN.{length, take, drop}
 use Rattle.blocks.specs.Words.{rowsIn}
 use Rattle.blocks.proofs.Values.{unmapped}
-use Rattle.blocks.proofs.Lent.{over-next, over-end}
+use Rattle.blocks.proofs.Overs.{over-next, over-end}
 use Rattle.symplectic.specs.Actions.{mostRows, qubits, matrix}
 use Rattle.symplectic.proofs.Arrays.{qubits-le, matrix-get, matrix-length}
 use borrow.Author.Needs.{needs}

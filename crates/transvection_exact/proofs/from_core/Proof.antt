@@ -9,7 +9,8 @@ use Rattle.blocks.specs.Blocks.{rowsOf}
 use Rattle.blocks.specs.Matrices.{matmul}
 use Rattle.blocks.specs.Words.{laid, rowsIn, over}
 use Rattle.blocks.proofs.Values.{unmapped}
-use Rattle.blocks.proofs.Lent.{lent-front, over-front}
+use Rattle.blocks.proofs.Lent.{lent-front}
+use Rattle.blocks.proofs.Overs.{over-front}
 use Rattle.symplectic.specs.Actions.{mostRows, qubits, matrix}
 use Rattle.symplectic.specs.Replies.{Reply}
 use Rattle.symplectic.proofs.Arrays.{qubits-le, matrix-length}

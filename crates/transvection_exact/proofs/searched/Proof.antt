@@ -5,7 +5,8 @@ use Prim.Native.Nat.{_+_}
 use native.Mathlib.Omega.{arith}
 use lib.ListN.{length, take, replicate}
 use Rattle.blocks.specs.Words.{rowsIn}
-use Rattle.blocks.proofs.Lent.{lent-front, over-front}
+use Rattle.blocks.proofs.Lent.{lent-front}
+use Rattle.blocks.proofs.Overs.{over-front}
 use Rattle.blocks.proofs.Values.{unmapped}
 use Rattle.symplectic.specs.Actions.{mostRows, qubits, matrix}
 use Rattle.symplectic.proofs.Arrays.{qubits-le, matrix-length}

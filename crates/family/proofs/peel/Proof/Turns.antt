@@ -13,7 +13,7 @@ use Rattle.binar.specs.Bits.{_⊕_, dot}
 use Rattle.binar.specs.Rows.{val}
 use Rattle.blocks.specs.Matrices.{times, matmul}
 use Rattle.blocks.specs.Words.{rowsIn}
-use Rattle.blocks.proofs.Lent.{over-length}
+use Rattle.blocks.proofs.Overs.{over-length}
 use Rattle.blocks.proofs.Products.{matmul-length}
 use Rattle.blocks.proofs.Values.{set-next}
 use Rattle.reduction.specs.Residue.{form}
