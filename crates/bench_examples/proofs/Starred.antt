@@ -7,8 +7,8 @@ use Rattle.binar.specs.Bits.{odd, bit, _⊕_, weight, dot}
 use Rattle.blocks.specs.Matrices.{times, units, dots}
 use Rattle.blocks.specs.Words.{rowsOfWords, wordOf, wordsOfRows, laid}
 use Rattle.symplectic.specs.Picks.{firstOne, unevenWith, firstUneven, pick}
-use Rattle.symplectic.specs.Replies.{fitAll, sizeQuestion, countQuestion, actionQuestions, listQuestions}
-use Rattle.symplectic.specs.Matches.{matches}
+use Rattle.symplectic.specs.Matches.{fitAll, matches}
+use Rattle.questions.specs.Replies.{sizeQuestion, countQuestion, actionQuestions, listQuestions}
 use Rattle.symplectic.specs.Turns.{xBits, zBits, pairing, turn, followed, product, pairAlike, symplectic, identityPlus}
 use Rattle.reduction.specs.Columns.{columns, rowReduceWithTransform, rank}
 use Rattle.reduction.specs.Residue.{residue, reduction, basis, transform, timesTransposed, core, form}

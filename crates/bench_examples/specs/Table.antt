@@ -8,7 +8,7 @@ use mathlib.Core.List.{List, [], _∷_, map}
 use Prim.Native.Nat.{ℕ, _+_}
 use lib.ListN.{replicate}
 use Rattle.binar.specs.Bits.{digit}
-use Rattle.symplectic.specs.Replies.{Reply}
+use Rattle.questions.specs.Replies.{Reply}
 use Rattle.gates.specs.Sequences.{gatesReply}
 use Rattle.shorter.specs.declared.Chosen.{Chosen}
 use Rattle.shorter.specs.Shorter.{shorterReply, partOf}

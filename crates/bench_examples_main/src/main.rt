@@ -1,7 +1,7 @@
 // Runs bench examples of the calls that are not starred. A line says the call, its number and its count, and for gates the rows written; for minimal lists also the looks.
 // Then reductions of residues: the rank, the pivots and the rows.
 use libc::STDOUT_FILENO;
-use symplectic::Figures;
+use questions::Figures;
 
 fn print_answer(name: &[u8], a: Figures) {
     io::write_all(STDOUT_FILENO, name);
@@ -33,7 +33,7 @@ fn greedy_identity(name: &[u8], out: &mut [u64]) {
     let mut rows = [0u64; 64];
     rebuild::rebuild(32, &list, &mut rows);
     let a = transvection::clifford_to_transvections(32, &rows, out);
-    print_answer(name, symplectic::figures_of(a));
+    print_answer(name, questions::figures_of(a));
     io::write_all(STDOUT_FILENO, b"\n");
 }
 
@@ -83,7 +83,7 @@ fn print_first(k: usize, rows: &[u64]) {
 
 // The reduction of the residue of an action on 2 qubits, which has 4 columns.
 fn reduced(name: &[u8], rows: &[u64]) {
-    let a = symplectic::from_words(2, rows);
+    let a = actions::from_words(2, rows);
     let r = reduction::row_reduce_with_transform(4, reduction::residue(a));
     io::write_all(STDOUT_FILENO, name);
     io::write_all(STDOUT_FILENO, b": rank ");

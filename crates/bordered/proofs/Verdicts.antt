@@ -8,8 +8,7 @@ use lib.Dec.{eqb}
 use lib.ListN.{length}
 use Rattle.blocks.specs.Blocks.{rowsOf}
 use Rattle.symplectic.specs.Turns.{allOf, product}
-use Rattle.symplectic.specs.Replies.{fitAll}
-use Rattle.symplectic.specs.Matches.{sameRows}
+use Rattle.symplectic.specs.Matches.{fitAll, sameRows}
 use Rattle.symplectic.proofs.Matches.{matches-is}
 use Rattle.reduction.specs.Columns.{rank}
 use Rattle.family.specs.declared.Family.{Family}

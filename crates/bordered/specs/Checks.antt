@@ -9,8 +9,7 @@ use lib.ListN.{length}
 use Rattle.binar.specs.Bits.{_⊻_, select, _⊕_}
 use Rattle.blocks.specs.Matrices.{times, units}
 use Rattle.symplectic.specs.Turns.{allOf}
-use Rattle.symplectic.specs.Replies.{fitAll}
-use Rattle.symplectic.specs.Matches.{matches}
+use Rattle.symplectic.specs.Matches.{fitAll, matches}
 use Rattle.symplectic.specs.Picks.{when}
 use Rattle.reduction.specs.Columns.{rank}
 use Rattle.reduction.specs.Residue.{basis, core, form}

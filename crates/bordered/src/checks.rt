@@ -1,8 +1,8 @@
 // The two checks of a bordered candidate: `validate` of the family, and `verifies_bordered_decomposition` of its list.
+use actions::Action;
 use binar::Row;
 use blocks::Block;
 use family::Family;
-use symplectic::Action;
 ghost use mathlib.Core.Path.{_≡_};
 ghost use mathlib.Core.Bool.{_&&_, not};
 ghost use Prim.Native.Nat.{ℕ, suc, _+_, _-_};
@@ -13,9 +13,8 @@ ghost use Rattle.binar.specs.Rows.{val};
 ghost use Rattle.blocks.specs.Blocks.{rowsOf};
 ghost use Rattle.blocks.specs.Words.{rowsIn};
 ghost use Rattle.symplectic.specs.Turns.{allOf, product};
-ghost use Rattle.symplectic.specs.Actions.{qubits, matrix};
-ghost use Rattle.symplectic.specs.Replies.{fitAll};
-ghost use Rattle.symplectic.specs.Matches.{sameRows};
+ghost use Rattle.actions.specs.Actions.{qubits, matrix};
+ghost use Rattle.symplectic.specs.Matches.{fitAll, sameRows};
 ghost use Rattle.reduction.specs.Residue.{form};
 ghost use Rattle.family.specs.Readings.{listOf};
 ghost use Rattle.bordered.specs.Checks.{relationSum, unitLower, validate as validateOf, verifiesBordered};
@@ -166,7 +165,7 @@ fn is_product_in(a: Action, b: Block, w: &mut [u64]) -> bool
 fn is_product(a: Action, b: Block) -> bool
     ensures { λ r. ⌜ r ≡ sameRows (product (qubits a) (rowsOf b)) (matrix a) ⌝ }
 {
-    let n = symplectic::qubits_of(a);
+    let n = actions::qubits_of(a);
     let mut w = [0u64; symplectic::MOST_ROWS];
     let to = blocks::start(&w, n + n);
     is_product_in(a, b, &mut w[..to])
@@ -182,7 +181,7 @@ pub(crate) fn verifies_bordered_decomposition(a: Action, r: usize, vectors: Bloc
     if !none_zero(vectors) {
         return false;
     }
-    let n = symplectic::qubits_of(a);
+    let n = actions::qubits_of(a);
     if !fit_all(n + n, vectors) {
         return false;
     }

@@ -2,15 +2,15 @@
 // In the source: transvection_exact.rs, `BorderedFamily::validate`, `bordered_decomposition`, `verifies_bordered_decomposition`.
 mod checks; // checks.rt: the check of a family, and that of its list
 
+use actions::Action;
 use blocks::Block;
 use family::Construction;
-use symplectic::Action;
 ghost use mathlib.Core.Path.{_≡_};
 ghost use mathlib.Core.Option.{none};
 ghost use Rattle.blocks.specs.Blocks.{rowsOf};
 ghost use Rattle.blocks.specs.Matrices.{matmul};
 ghost use Rattle.blocks.specs.Words.{rowsIn};
-ghost use Rattle.symplectic.specs.Actions.{qubits, matrix};
+ghost use Rattle.actions.specs.Actions.{qubits, matrix};
 ghost use Rattle.triangular.specs.Readings.{coreIn};
 ghost use Rattle.bordered.specs.Checks.{checkedList, coreFamily};
 ghost use Rattle.bordered.specs.Readings.{listedOf};

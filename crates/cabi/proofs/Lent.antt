@@ -7,10 +7,10 @@ use native.Mathlib.Omega.{arith}
 use lib.ListN.{take}
 use Rattle.blocks.specs.Matrices.{All}
 use Rattle.blocks.specs.Words.{rowsOfWords}
-use Rattle.symplectic.specs.declared.Figures.{Figures}
+use Rattle.questions.specs.declared.Figures.{Figures}
 use Rattle.symplectic.specs.Turns.{product, identityPlus}
-use Rattle.symplectic.specs.Replies.{Reply, Replays, Rebuilds}
-use Rattle.symplectic.proofs.Answered.{Meets}
+use Rattle.questions.specs.Replies.{Reply, Replays, Rebuilds}
+use Rattle.questions.proofs.Answered.{Meets}
 use Rattle.reduction.specs.Columns.{rank}
 use Rattle.reduction.specs.Pivots.{ReducedRows}
 use Rattle.fixed_space.specs.Promises.{Fixed, Spanning, InPlace, Complete, Reduced, Counted}

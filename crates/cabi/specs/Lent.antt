@@ -3,7 +3,7 @@
 use mathlib.Core.Bool.{cond}
 use Prim.Native.Nat.{ℕ, zero, suc}
 use lib.Dec.{eqb}
-use Rattle.symplectic.specs.declared.Figures.{Figures}
+use Rattle.questions.specs.declared.Figures.{Figures}
 
 -- a lent number after the call: the value of an answer; a refusal leaves what was there
 abbrev pub lentNumber : ℕ → ℕ → ℕ → ℕ

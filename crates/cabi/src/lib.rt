@@ -4,7 +4,7 @@
 ghost use mathlib.Core.Path.{_≡_};
 ghost use Prim.Native.Nat.{_*_, _≤_};
 ghost use Rattle.blocks.specs.Words.{rowsOfWords};
-ghost use Rattle.symplectic.specs.Replies.{Replays, Rebuilds};
+ghost use Rattle.questions.specs.Replies.{Replays, Rebuilds};
 ghost use Rattle.rebuild.specs.Rebuilds.{rebuildReply};
 ghost use Rattle.shorter.specs.Shorter.{shorterReply, partOf};
 ghost use Rattle.shorter.specs.Promises.{Played, NeitherShorter, FirstAtEqual, Neither};
@@ -53,7 +53,7 @@ pub extern "C" fn turnlist_greedy(n: u64, rows: &[u64], out: &mut [u64], count: 
     ensures few { λ r. ⌜ readFigures 0 r (now (count .exit)) 0 .count ≤ 4 * n ⌝ }
 {
     let answer = transvection::clifford_to_transvections(n, rows, out);
-    let greedy = symplectic::figures_of(answer);
+    let greedy = questions::figures_of(answer);
     if greedy.number == 0 {
         *count = greedy.count;
     }
@@ -77,7 +77,7 @@ pub extern "C" fn turnlist_fixed_space(
     ensures dimension { λ r. ⌜ Counted n (now (rows .entry)) (readFigures 0 r (now (count .exit)) 0) ⌝ }
 {
     let answer = fixed_space::clifford_fixed_space(n, rows, out);
-    let fixed = symplectic::figures_of(answer);
+    let fixed = questions::figures_of(answer);
     if fixed.number == 0 {
         *count = fixed.count;
     }

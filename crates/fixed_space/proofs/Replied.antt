@@ -8,11 +8,11 @@ use lib.ListN.{length}
 use Rattle.blocks.specs.Words.{rowsOfWords}
 use Rattle.blocks.proofs.Values.{laid-front}
 use Rattle.blocks.specs.Matrices.{All}
-use Rattle.symplectic.specs.declared.Figures.{Figures}
-use Rattle.symplectic.specs.Replies.{Reply, refused, listed, listQuestions}
-use Rattle.symplectic.proofs.Questions.{passed-size, passed-count, passed-rows, list-known}
-use Rattle.symplectic.proofs.Answered.{Holds, holds-unless, rows-wide}
-use Rattle.symplectic.proofs.Listings.{ListCall}
+use Rattle.questions.specs.declared.Figures.{Figures}
+use Rattle.questions.specs.Replies.{Reply, refused, listed, listQuestions}
+use Rattle.questions.proofs.Questions.{passed-size, passed-count, passed-rows, list-known}
+use Rattle.questions.proofs.Answered.{Holds, holds-unless, rows-wide}
+use Rattle.questions.proofs.Listings.{ListCall}
 use Rattle.reduction.specs.Pivots.{ReducedRows}
 use Rattle.fixed_space.specs.FixedSpace.{fixedSpace, fixedReply}
 use Rattle.fixed_space.specs.Promises.{Fixed, Spanning, InPlace, Complete, Reduced, Counted}

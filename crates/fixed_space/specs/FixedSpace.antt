@@ -5,7 +5,7 @@ use Prim.Native.Nat.{ℕ, _+_}
 use lib.ListN.{length}
 use Rattle.blocks.specs.Words.{rowsOfWords}
 use Rattle.symplectic.specs.Turns.{identityPlus}
-use Rattle.symplectic.specs.Replies.{Reply, listed, unlessRefused, listQuestions}
+use Rattle.questions.specs.Replies.{Reply, listed, unlessRefused, listQuestions}
 use Rattle.reduction.specs.Columns.{rowReduceWithTransform}
 
 -- a basis of all u with uM = 0, for a matrix of m columns: the rows of the transform beside the rows that became zero

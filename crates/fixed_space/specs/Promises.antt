@@ -6,7 +6,7 @@ use Prim.Native.Nat.{ℕ, _+_, _^_, _<_}
 use lib.ListN.{take}
 use Rattle.blocks.specs.Matrices.{times, All}
 use Rattle.blocks.specs.Words.{rowsOfWords}
-use Rattle.symplectic.specs.declared.Figures.{Figures}
+use Rattle.questions.specs.declared.Figures.{Figures}
 use Rattle.symplectic.specs.Turns.{identityPlus}
 use Rattle.reduction.specs.Columns.{rank}
 use Rattle.reduction.specs.Pivots.{ReducedRows}

@@ -1,15 +1,15 @@
 // The fixed space: a basis of all vectors that an action leaves in place, laid into lent words.
 // In the source: transvection.rs, `clifford_fixed_space`.
+use actions::Action;
 use blocks::Block;
-use symplectic::Action;
-use symplectic::Listing;
+use questions::Listing;
 ghost use mathlib.Core.Path.{_≡_};
 ghost use Prim.Native.Nat.{_≤_};
 ghost use lib.ListN.{length};
 ghost use Rattle.binar.specs.Rows.{width};
 ghost use Rattle.blocks.specs.Blocks.{rowsOf};
-ghost use Rattle.symplectic.specs.Actions.{qubits, matrix};
-ghost use Rattle.symplectic.specs.Answers.{figuresOf};
+ghost use Rattle.actions.specs.Actions.{qubits, matrix};
+ghost use Rattle.questions.specs.Answers.{figuresOf};
 ghost use Rattle.fixed_space.specs.FixedSpace.{kernel as kernelOf, reducedBasis, fixedSpace, fixedReply};
 ghost use Rattle.fixed_space.specs.Promises.{InPlace, Complete, Reduced, Counted};
 
@@ -34,7 +34,7 @@ fn reduced_basis(m: usize, matrix: Block) -> Block
 fn fixed_space(a: Action) -> Block
     ensures { λ r. ⌜ rowsOf r ≡ fixedSpace (qubits a) (matrix a) ⌝ }
 {
-    let n = symplectic::qubits_of(a);
+    let n = actions::qubits_of(a);
     let m = n + n;
     reduced_basis(m, kernel(m, reduction::identity_plus(a)))
 }
@@ -48,7 +48,7 @@ pub fn clifford_fixed_space(n: u64, rows: &[u64], out: &mut [u64]) -> Listing
     ensures reduced { λ r. ⌜ Reduced n (now (out .exit)) (figuresOf r) ⌝ }
     ensures dimension { λ r. ⌜ Counted n (now (rows .entry)) (figuresOf r) ⌝ }
 {
-    let asked = symplectic::listing_of(symplectic::action_questions(n, rows));
+    let asked = questions::listing_of(questions::action_questions(n, rows));
     let Listing::Listed { count: _ } = asked else {
         return asked;
     };
@@ -56,7 +56,7 @@ pub fn clifford_fixed_space(n: u64, rows: &[u64], out: &mut [u64]) -> Listing
     if out.len() < wanted as usize {
         return Listing::OutputTooShort;
     }
-    let basis = fixed_space(symplectic::from_words(n, rows));
+    let basis = fixed_space(actions::from_words(n, rows));
     blocks::store(n, basis, out);
     Listing::Listed {
         count: blocks::length_of(basis) as u64,

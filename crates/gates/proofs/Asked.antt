@@ -12,9 +12,9 @@ use borrow.Author.Tests.{ltb-true, lt-ltb, le-ltb, eq-eqb, ne-eqb}
 use Rattle.binar.specs.Bits.{digit}
 use Rattle.blocks.specs.Matrices.{units}
 use Rattle.symplectic.specs.Turns.{followedBy, product}
-use Rattle.symplectic.specs.Replies.{ask, andThen}
+use Rattle.questions.specs.Replies.{ask, andThen}
 use Rattle.symplectic.proofs.Products.{followedBy-append, product-nil, product-append}
-use Rattle.symplectic.proofs.Questions.{ask-passed, then-passed, then-refused}
+use Rattle.questions.proofs.Questions.{ask-passed, then-passed, then-refused}
 use Rattle.gates.specs.Sheet.{sheet, gate, turnVector}
 use Rattle.gates.specs.Sequences.{readsTwo, gateQuestions, sequenceQuestions, sequenceTurns}
 

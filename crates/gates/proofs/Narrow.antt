@@ -10,7 +10,7 @@ use Rattle.binar.specs.Bits.{select, bit}
 use Rattle.binar.proofs.Sums.{sum-lt}
 use Rattle.blocks.specs.Matrices.{All}
 use Rattle.blocks.proofs.All.{All·map, All·to-map, All·append}
-use Rattle.symplectic.specs.Replies.{andThen}
+use Rattle.questions.specs.Replies.{andThen}
 use Rattle.gates.specs.Sheet.{gate, turnVector}
 use Rattle.gates.specs.Sequences.{gateQuestions, sequenceQuestions, sequenceTurns}
 use Rattle.gates.proofs.Turned.{Second, second-read}

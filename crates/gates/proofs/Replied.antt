@@ -6,13 +6,13 @@ use Prim.Native.Nat.{ℕ, suc, _+_, _≤_, _<_}
 use lib.ListN.{length}
 use Rattle.blocks.specs.Words.{rowsOfWords, laid}
 use Rattle.blocks.proofs.Values.{rows-count}
-use Rattle.symplectic.specs.Actions.{maxQubits}
-use Rattle.symplectic.specs.declared.Figures.{Figures}
+use Rattle.symplectic.specs.Sizes.{maxQubits}
+use Rattle.questions.specs.declared.Figures.{Figures}
 use Rattle.symplectic.specs.Turns.{product}
-use Rattle.symplectic.specs.Replies.{Reply, refused, listed, sizeQuestion, countQuestion, Rebuilds}
+use Rattle.questions.specs.Replies.{Reply, refused, listed, sizeQuestion, countQuestion, Rebuilds}
 use Rattle.symplectic.proofs.Products.{product-length}
-use Rattle.symplectic.proofs.Questions.{size-refused, size-passed, size-known, count-refused, count-passed, count-known}
-use Rattle.symplectic.proofs.Answered.{Meets, Holds, meets-refused, meets-answer, rebuilds}
+use Rattle.questions.proofs.Questions.{size-refused, size-passed, size-known, count-refused, count-passed, count-known}
+use Rattle.questions.proofs.Answered.{Meets, Holds, meets-refused, meets-answer, rebuilds}
 use Rattle.gates.specs.declared.GateAction.the-variants.{Rows, TooManyQubits, WrongRowCount}
 use Rattle.gates.specs.Answers.{figuresOf}
 use Rattle.gates.specs.Sequences.{sequenceQuestions, sequenceTurns, gatesReply}

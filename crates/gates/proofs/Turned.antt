@@ -15,7 +15,7 @@ use Rattle.binar.proofs.Digits.{bit-is}
 use Rattle.binar.proofs.Ones.{unit-is}
 use Rattle.blocks.specs.Matrices.{All}
 use Rattle.blocks.proofs.All.{All·any}
-use Rattle.symplectic.specs.Actions.{maxQubits}
+use Rattle.symplectic.specs.Sizes.{maxQubits}
 use Rattle.symplectic.specs.Turns.{followed, followedBy}
 use Rattle.gates.specs.declared.SheetLine.{SheetLine}
 use Rattle.gates.specs.Sheet.{Gate, sheet, gate, turnVector}

@@ -1,6 +1,6 @@
 -- What the answer of a gate sequence says: document 01's number, and how many rows stand in the lent words.
 -- Assumes nothing.
-use Rattle.symplectic.specs.declared.Figures.{Figures}
+use Rattle.questions.specs.declared.Figures.{Figures}
 use Rattle.gates.specs.declared.GateAction.{GateAction}
 use Rattle.gates.specs.declared.GateAction.the-variants.{Rows, TooManyQubits, WrongRowCount, UnknownGate, QubitTooHigh, EqualQubits}
 

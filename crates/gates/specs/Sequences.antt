@@ -7,7 +7,7 @@ use lib.Dec.{eqb, ltb}
 use lib.ListN.{length}
 use Rattle.blocks.specs.Words.{rowsOfWords}
 use Rattle.symplectic.specs.Turns.{product}
-use Rattle.symplectic.specs.Replies.{Reply, listed, ask, andThen, unlessRefused, sizeQuestion, countQuestion}
+use Rattle.questions.specs.Replies.{Reply, listed, ask, andThen, unlessRefused, sizeQuestion, countQuestion}
 use Rattle.gates.specs.Sheet.{sheet, gate, turnVector}
 
 -- whether b is read

@@ -1,7 +1,7 @@
 // Gate sequences: the action of a sequence of gates, laid into lent rows.
 // Not in the source.
 use binar::Row;
-use symplectic::Figures;
+use questions::Figures;
 use symplectic::MAX_QUBITS;
 ghost use mathlib.Core.Path.{_≡_};
 ghost use mathlib.Core.Bool.{true};
@@ -12,8 +12,8 @@ ghost use Rattle.binar.specs.Bits.{select, bit};
 ghost use Rattle.binar.specs.Rows.{val, unit};
 ghost use Rattle.blocks.specs.Words.{rowsIn};
 ghost use Rattle.symplectic.specs.Turns.{followedBy};
-ghost use Rattle.symplectic.specs.Actions.{maxQubits};
-ghost use Rattle.symplectic.specs.Replies.{Rebuilds};
+ghost use Rattle.symplectic.specs.Sizes.{maxQubits};
+ghost use Rattle.questions.specs.Replies.{Rebuilds};
 ghost use Rattle.gates.specs.Sheet.{gate, turnVector};
 ghost use Rattle.gates.specs.Sequences.{readsTwo, gateQuestions, sequenceTurns, gatesReply};
 ghost use Rattle.gates.specs.Answers.{figuresOf};
@@ -218,7 +218,7 @@ fn played(n: u64, bytes: &[u8], w: &mut [u64], out: &mut [u64]) -> GateAction
             }
         }
     }
-    symplectic::store(symplectic::from_rows(n, &w[..]), out);
+    actions::store(actions::from_rows(n, &w[..]), out);
     let count = n + n;
     GateAction::Rows { count: count }
 }

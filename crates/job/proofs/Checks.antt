@@ -10,9 +10,9 @@ use native.Mathlib.Nat.{eq-or-lt-of-le, le-of-suc-le-suc}
 use lib.Dec.{eqb, leb, ltb}
 use lib.ListN.{length}
 use borrow.Author.Tests.{ltb-true, leb-true, eqb-true, lt-ltb, le-ltb, le-leb, lt-leb, eq-eqb, ne-eqb}
-use Rattle.symplectic.specs.Actions.{maxQubits}
-use Rattle.symplectic.specs.Replies.{ask, sizeQuestion}
-use Rattle.symplectic.proofs.Questions.{ask-passed, size-refused, size-passed, size-known}
+use Rattle.symplectic.specs.Sizes.{maxQubits}
+use Rattle.questions.specs.Replies.{ask, sizeQuestion}
+use Rattle.questions.proofs.Questions.{ask-passed, size-refused, size-passed, size-known}
 use Rattle.job.specs.Files.{longestFile, headSize, entrySize, qubitCount, entryCount, Entry, entry, partSize, entryPasses, entriesPass, fileQuestions}
 
 no-second : (a b : Bool) → b ≡ false → (a && b) ≡ false

@@ -5,7 +5,7 @@ use mathlib.Core.List.{List, [], _∷_}
 use Prim.Native.Nat.{ℕ, zero, suc, _+_, _*_}
 use lib.Dec.{eqb, leb, ltb}
 use lib.ListN.{length, take, drop}
-use Rattle.symplectic.specs.Replies.{ask, sizeQuestion}
+use Rattle.questions.specs.Replies.{ask, sizeQuestion}
 
 -- the most bytes of a file, those before its entries, and those of an entry. Plain numbers, open to users
 abbrev pub longestFile : ℕ

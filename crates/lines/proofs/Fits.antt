@@ -9,9 +9,9 @@ use lib.ListN.{length, take, length-append, length-take}
 use lib.Seq.{take-all}
 use Rattle.blocks.specs.Words.{rowsOfWords}
 use Rattle.blocks.proofs.Values.{rows-count}
-use Rattle.symplectic.specs.declared.Figures.{Figures}
-use Rattle.symplectic.specs.Actions.{maxQubits}
-use Rattle.symplectic.specs.Replies.{Reply, refused}
+use Rattle.questions.specs.declared.Figures.{Figures}
+use Rattle.symplectic.specs.Sizes.{maxQubits}
+use Rattle.questions.specs.Replies.{Reply, refused}
 use Rattle.lines.specs.Lines.{decimal, field, load, space, newline, spelled, line, fileLine}
 use Rattle.lines.specs.declared.Name.{Name}
 use Rattle.lines.specs.declared.Name.the-variants.{Min, Greedy}

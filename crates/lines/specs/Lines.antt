@@ -7,7 +7,7 @@ use lib.Dec.{ltb}
 use lib.ListN.{take}
 use Rattle.binar.specs.Bits.{digit, bit}
 use Rattle.blocks.specs.Words.{rowsOfWords}
-use Rattle.symplectic.specs.Replies.{Reply}
+use Rattle.questions.specs.Replies.{Reply}
 use Rattle.letters.specs.Letters.{spelling}
 
 -- a number in decimal: at most one digit more than the first number says

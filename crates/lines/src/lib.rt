@@ -1,7 +1,7 @@
 // A line of the printout, by value. Each function writes behind the bytes that a line has.
 // Not in the source.
 use binar::Row;
-use symplectic::Figures;
+use questions::Figures;
 ghost use mathlib.Core.Path.{_≡_};
 ghost use mathlib.Core.List.{[], _∷_, _++_};
 ghost use Prim.Native.Nat.{_+_};

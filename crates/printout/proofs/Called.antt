@@ -4,9 +4,9 @@ use mathlib.Core.Path.{_≡_, ap, sym, _∙_}
 use mathlib.Core.List.{List}
 use Prim.Native.Nat.{ℕ, _+_, _≤_}
 use lib.ListN.{length}
-use Rattle.symplectic.specs.Actions.{maxQubits}
-use Rattle.symplectic.specs.declared.Figures.{Figures}
-use Rattle.symplectic.specs.Replies.{refused}
+use Rattle.symplectic.specs.Sizes.{maxQubits}
+use Rattle.questions.specs.declared.Figures.{Figures}
+use Rattle.questions.specs.Replies.{refused}
 use Rattle.transvection.proofs.Replied.{greedy-miscounted}
 use Rattle.transvection_exact.proofs.Replies.{minimal-miscounted}
 use Rattle.lines.specs.declared.Name.{Name}

@@ -6,9 +6,9 @@ use mathlib.Core.Logic.{inl, inr}
 use Prim.Native.Nat.{ℕ, zero, suc, _+_, _*_, _≤_}
 use native.Mathlib.Omega.{arith}
 use lib.ListN.{length, take, drop, replicate}
-use Rattle.symplectic.specs.Actions.{maxQubits, mostRows}
-use Rattle.symplectic.specs.declared.Figures.{Figures}
-use Rattle.symplectic.specs.Replies.{Reply}
+use Rattle.symplectic.specs.Sizes.{maxQubits, mostRows}
+use Rattle.questions.specs.declared.Figures.{Figures}
+use Rattle.questions.specs.Replies.{Reply}
 use Rattle.gates.specs.Sequences.{gatesReply}
 use Rattle.job.specs.Files.{part, qubitCount, Entry, partSize}
 use Rattle.job.proofs.Numbers.{part-rows}

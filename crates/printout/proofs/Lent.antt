@@ -6,8 +6,8 @@ use Prim.Native.Nat.{ℕ, zero, suc, _≤_}
 use native.Mathlib.Omega.{arith}
 use lib.ListN.{length, take, drop, replicate, length-append, length-replicate}
 use lib.Seq.{take-at, length-take-le}
-use Rattle.symplectic.specs.declared.Figures.{Figures}
-use Rattle.symplectic.specs.Replies.{Reply}
+use Rattle.questions.specs.declared.Figures.{Figures}
+use Rattle.questions.specs.Replies.{Reply}
 use Rattle.printout.specs.Printout.{blankWords}
 
 blank-front : (k room : ℕ) → k ≤ room → take {A = ℕ} k (replicate room 0) ≡ blankWords k

@@ -6,9 +6,9 @@ use mathlib.Core.Logic.{⊎-elim}
 use Prim.Native.Nat.{ℕ, zero, suc, _+_, _*_, _^_, _≤_, _<_}
 use native.Mathlib.Omega.{arith}
 use lib.ListN.{length, take, drop, replicate}
-use Rattle.symplectic.specs.Actions.{maxQubits}
-use Rattle.symplectic.specs.declared.Figures.{Figures}
-use Rattle.symplectic.specs.Replies.{Reply, refused}
+use Rattle.symplectic.specs.Sizes.{maxQubits}
+use Rattle.questions.specs.declared.Figures.{Figures}
+use Rattle.questions.specs.Replies.{Reply, refused}
 use Rattle.job.specs.Files.{qubitCount, entry}
 use Rattle.lines.specs.Lines.{line}
 use Rattle.lines.specs.declared.Name.{Name}

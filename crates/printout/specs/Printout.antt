@@ -3,7 +3,7 @@
 use mathlib.Core.List.{List, [], _∷_, flatten}
 use Prim.Native.Nat.{ℕ, zero, suc, _+_, _*_}
 use lib.ListN.{take, drop, replicate}
-use Rattle.symplectic.specs.Replies.{Reply, refused}
+use Rattle.questions.specs.Replies.{Reply, refused}
 use Rattle.gates.specs.Sequences.{gatesReply}
 use Rattle.transvection.specs.Greedy.{greedyReply}
 use Rattle.transvection_exact.specs.Minimal.{minimalReply}

@@ -1,5 +1,5 @@
 // The greedy list of an action.
-use symplectic::Figures;
+use questions::Figures;
 ghost use mathlib.Core.Path.{_≡_};
 ghost use Rattle.transvection.specs.Greedy.{greedyReply};
 
@@ -8,5 +8,5 @@ pub(crate) fn list(n: u64, rows: &[u64], out: &mut [u64]) -> Figures
     ensures left { λ r. ⌜ now (out .exit) ≡ greedyReply n (now (rows .entry)) (now (out .entry)) .words ⌝ }
 {
     let answer = transvection::clifford_to_transvections(n, rows, out);
-    symplectic::figures_of(answer)
+    questions::figures_of(answer)
 }

@@ -1,5 +1,5 @@
 // The minimal list of an action, with the program's budget.
-use symplectic::Figures;
+use questions::Figures;
 ghost use mathlib.Core.Path.{_≡_};
 ghost use Rattle.transvection_exact.specs.Minimal.{minimalReply};
 ghost use Rattle.printout.specs.Printout.{jobBudget};

@@ -7,13 +7,15 @@ use Prim.Native.Nat.{ℕ, suc, _+_, _≤_, _<_}
 use lib.ListN.{length}
 use Rattle.blocks.specs.Words.{rowsOfWords, laid}
 use Rattle.blocks.proofs.Values.{rows-count}
-use Rattle.symplectic.specs.Actions.{maxQubits}
+use Rattle.symplectic.specs.Sizes.{maxQubits}
 use Rattle.symplectic.specs.Turns.{product}
-use Rattle.symplectic.specs.declared.Figures.{Figures}
-use Rattle.symplectic.specs.Replies.{Reply, refused, listed, ask, fitAll, Rebuilds}
+use Rattle.questions.specs.declared.Figures.{Figures}
+use Rattle.questions.specs.Replies.{Reply, refused, listed, ask, Rebuilds}
+use Rattle.symplectic.specs.Matches.{fitAll}
 use Rattle.symplectic.proofs.Products.{product-length}
-use Rattle.symplectic.proofs.Questions.{fit-all, size-refused, size-passed, size-known, count-refused, count-passed, count-known, ask-passed}
-use Rattle.symplectic.proofs.Answered.{Meets, Holds, meets-refused, meets-answer, rebuilds}
+use Rattle.symplectic.proofs.Matches.{fit-all}
+use Rattle.questions.proofs.Questions.{size-refused, size-passed, size-known, count-refused, count-passed, count-known, ask-passed}
+use Rattle.questions.proofs.Answered.{Meets, Holds, meets-refused, meets-answer, rebuilds}
 use Rattle.rebuild.specs.declared.Rebuilt.the-variants.{Rows, TooManyQubits, WrongRowCount, VectorTooWide}
 use Rattle.rebuild.specs.Answers.{figuresOf}
 use Rattle.rebuild.specs.Rebuilds.{rebuildQuestions, rebuildReply}

@@ -1,6 +1,6 @@
 -- What the answer of a rebuild says: document 01's number, and how many rows stand in the lent words.
 -- Assumes nothing.
-use Rattle.symplectic.specs.declared.Figures.{Figures}
+use Rattle.questions.specs.declared.Figures.{Figures}
 use Rattle.rebuild.specs.declared.Rebuilt.{Rebuilt}
 use Rattle.rebuild.specs.declared.Rebuilt.the-variants.{Rows, TooManyQubits, WrongRowCount, VectorTooWide}
 

@@ -4,7 +4,8 @@ use mathlib.Core.List.{List}
 use Prim.Native.Nat.{ℕ, _+_}
 use Rattle.blocks.specs.Words.{rowsOfWords}
 use Rattle.symplectic.specs.Turns.{product}
-use Rattle.symplectic.specs.Replies.{Reply, listed, unlessRefused, ask, fitAll, sizeQuestion, countQuestion}
+use Rattle.questions.specs.Replies.{Reply, listed, unlessRefused, ask, sizeQuestion, countQuestion}
+use Rattle.symplectic.specs.Matches.{fitAll}
 
 -- 1, 2 of the output rows, then 8: has each vector only bits below 2n?
 unfoldable pub rebuildQuestions : ℕ → List ℕ → List ℕ → ℕ

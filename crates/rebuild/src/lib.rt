@@ -1,15 +1,16 @@
 // The rebuild: the product of a lent list, laid into lent rows.
 // Not in the source.
-use symplectic::Action;
-use symplectic::Figures;
+use actions::Action;
+use questions::Figures;
 use symplectic::MAX_QUBITS;
 ghost use mathlib.Core.Path.{_≡_};
 ghost use Prim.Native.Nat.{_+_};
 ghost use lib.ListN.{length};
 ghost use Rattle.blocks.specs.Words.{rowsOfWords, rowsIn};
-ghost use Rattle.symplectic.specs.Actions.{capped, qubits, matrix};
+ghost use Rattle.symplectic.specs.Sizes.{capped};
+ghost use Rattle.actions.specs.Actions.{qubits, matrix};
 ghost use Rattle.symplectic.specs.Turns.{product};
-ghost use Rattle.symplectic.specs.Replies.{Rebuilds};
+ghost use Rattle.questions.specs.Replies.{Rebuilds};
 ghost use Rattle.rebuild.specs.Rebuilds.{rebuildReply};
 ghost use Rattle.rebuild.specs.Answers.{figuresOf};
 
@@ -59,7 +60,7 @@ fn product_in(n: u64, list: &[u64], w: &mut [u64]) -> Action
         let v = binar::of_word(list[i]);
         symplectic::follow(n, w, v);
     }
-    symplectic::from_rows(n, &w[..])
+    actions::from_rows(n, &w[..])
 }
 
 // The product of the vectors that lent words hold, however many they are.
@@ -85,9 +86,9 @@ pub fn rebuild(n: u64, list: &[u64], out: &mut [u64]) -> Rebuilt
     if out.len() != count as usize {
         return Rebuilt::WrongRowCount;
     }
-    if !symplectic::words_fit(n, list) {
+    if !questions::words_fit(n, list) {
         return Rebuilt::VectorTooWide;
     }
-    symplectic::store(product_of(n, list), out);
+    actions::store(product_of(n, list), out);
     Rebuilt::Rows { count: count }
 }

@@ -16,7 +16,7 @@ use Rattle.blocks.proofs.All.{All·map, All·at, All·left}
 use Rattle.blocks.proofs.Products.{times-unit}
 use Rattle.blocks.proofs.Units.{units-length, units-lt, units-at}
 use Rattle.blocks.proofs.Values.{map-get}
-use Rattle.symplectic.specs.Actions.{maxQubits}
+use Rattle.symplectic.specs.Sizes.{maxQubits}
 use Rattle.symplectic.specs.Turns.{identityPlus}
 use Rattle.symplectic.proofs.Lists.{map-eq}
 use Rattle.symplectic.proofs.Layers.{added, added-is, identityPlus-is}

@@ -1,10 +1,10 @@
 // Reduction by columns: rows with their transform, and the rank; I + F, the residue of an action, its basis and core.
 // In the source: transvection_exact.rs, `residue_matrix`, `row_reduce_with_transform`, `residue_core`.
+use actions::Action;
 use binar::Row;
 use binar::WIDTH;
 use blocks::Block;
 use blocks::ROOM;
-use symplectic::Action;
 use symplectic::MAX_QUBITS;
 use symplectic::MOST_ROWS;
 ghost use mathlib.Core.Path.{_≡_};
@@ -17,7 +17,8 @@ ghost use Rattle.binar.specs.Rows.{val, width, rowBound};
 ghost use Rattle.blocks.specs.Blocks.{rowsOf};
 ghost use Rattle.blocks.specs.Matrices.{units, dots as dotsOf, All};
 ghost use Rattle.blocks.specs.Words.{rowsIn, over};
-ghost use Rattle.symplectic.specs.Actions.{mostRows, qubits, matrix};
+ghost use Rattle.symplectic.specs.Sizes.{mostRows};
+ghost use Rattle.actions.specs.Actions.{qubits, matrix};
 ghost use Rattle.symplectic.specs.Turns.{identityPlus};
 ghost use Rattle.symplectic.specs.Picks.{addBoth};
 ghost use Rattle.reduction.specs.Columns.{unreduced, rows as allRows, column, columns, rank as rankOf, rowReduceWithTransform};
@@ -237,7 +238,7 @@ fn identity_plus_from(a: Action, k: usize) -> Block
     ensures { λ r. ⌜ rowsOf r ≡ drop k (identityPlus (qubits a) (matrix a)) ++ take k (identityPlus (qubits a) (matrix a)) ⌝ }
 {
     let mut w = [0u64; MOST_ROWS];
-    let n = symplectic::qubits_of(a);
+    let n = actions::qubits_of(a);
     let to = blocks::start(&w, n + n);
     put_plus(a, k, &mut w[..to]);
     blocks::from_words(MAX_QUBITS, &w[..to])
@@ -254,7 +255,7 @@ pub fn identity_plus(a: Action) -> Block
 pub fn residue(a: Action) -> Block
     ensures { λ r. ⌜ rowsOf r ≡ residueOf (qubits a) (matrix a) ⌝ }
 {
-    identity_plus_from(a, symplectic::qubits_of(a))
+    identity_plus_from(a, actions::qubits_of(a))
 }
 
 // The row whose column i is the dot of v and row i of the first k: v times these transposed.
@@ -308,7 +309,7 @@ fn residue_core_in(
     ensures based { λ r. ⌜ rowsIn (now (basis .exit)) ≡ over (basisOf (qubits a) (matrix a)) (rowsIn (now (basis .entry))) ⌝ }
     ensures cored { λ r. ⌜ rowsIn (now (core .exit)) ≡ over (coreOf (qubits a) (matrix a)) (rowsIn (now (core .entry))) ⌝ }
 {
-    let n = symplectic::qubits_of(a);
+    let n = actions::qubits_of(a);
     put_plus(a, n, rows);
     let r = reduce(n + n, rows, transform, pivots);
     put_front(r, rows, basis);
@@ -325,7 +326,7 @@ pub fn residue_core(a: Action, basis: &mut [u64], core: &mut [u64]) -> usize
     let mut rows = [0u64; MOST_ROWS];
     let mut transform = [0u64; MOST_ROWS];
     let mut pivots = [0; MOST_ROWS];
-    let n = symplectic::qubits_of(a);
+    let n = actions::qubits_of(a);
     let to = blocks::start(&rows, n + n);
     residue_core_in(
         a,

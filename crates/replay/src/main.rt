@@ -3,7 +3,7 @@
 // Not in the source.
 mod score;
 
-use symplectic::Figures;
+use questions::Figures;
 ghost use mathlib.Core.Path.{_≡_};
 ghost use mathlib.Core.Bool.{true};
 ghost use Prim.Native.Nat.{_≤_, _<_};
@@ -108,7 +108,7 @@ fn call(c: Case, lent: &[u64], out: &mut [u64]) -> Figures
     }
     if c.kind == GREEDY {
         let a = transvection::clifford_to_transvections(c.n, lent, out);
-        return symplectic::figures_of(a);
+        return questions::figures_of(a);
     }
     if c.kind == REBUILD {
         let a = rebuild::rebuild(c.n, lent, out);
@@ -119,7 +119,7 @@ fn call(c: Case, lent: &[u64], out: &mut [u64]) -> Figures
     }
     if c.kind == FIXED {
         let a = fixed_space::clifford_fixed_space(c.n, lent, out);
-        return symplectic::figures_of(a);
+        return questions::figures_of(a);
     }
     shorter_words(c, lent, out)
 }

@@ -7,7 +7,7 @@ use Prim.Native.Nat.{ℕ}
 use lib.Dec.{ltb}
 use lib.ListN.{length}
 use Rattle.blocks.specs.Words.{rowsOfWords}
-use Rattle.symplectic.specs.Replies.{actionQuestions}
+use Rattle.questions.specs.Replies.{actionQuestions}
 use Rattle.symplectic.specs.Matches.{matches}
 use Rattle.shorter.specs.Shorter.{chosen, nothingChosen, preferred, chosenUnless, shorterOf, shorterReply}
 

@@ -13,10 +13,10 @@ use lib.ListN.{length}
 use borrow.Author.Tests.{ltb-true, ltb-false, eq-eqb, ne-eqb}
 use Rattle.binar.specs.Bits.{select}
 use Rattle.blocks.specs.Words.{rowsOfWords}
-use Rattle.symplectic.specs.Replies.{actionQuestions}
+use Rattle.questions.specs.Replies.{actionQuestions}
 use Rattle.symplectic.specs.Matches.{matches}
 use Rattle.symplectic.proofs.Matches.{matches-known, known-matches}
-use Rattle.symplectic.proofs.Questions.{action-small}
+use Rattle.questions.proofs.Questions.{action-small}
 use Rattle.shorter.specs.declared.Chosen.{Chosen}
 use Rattle.shorter.specs.Shorter.{chosen, nothingChosen, preferred, chosenUnless, shorterOf, shorterReply, partOf, placeOf}
 use Rattle.shorter.specs.Promises.{Plays, NoLonger, Played, NeitherShorter, FirstAtEqual, Neither}

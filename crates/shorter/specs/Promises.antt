@@ -8,7 +8,7 @@ use lib.ListN.{length}
 use Rattle.blocks.specs.Matrices.{All}
 use Rattle.blocks.specs.Words.{rowsOfWords}
 use Rattle.symplectic.specs.Turns.{product}
-use Rattle.symplectic.specs.Replies.{actionQuestions}
+use Rattle.questions.specs.Replies.{actionQuestions}
 
 -- a lent list plays the lent action (document 02: matches): each vector is free of bits from 2n up, and the product is the whole action
 abbrev pub Plays : ℕ → List ℕ → List ℕ → Type 0

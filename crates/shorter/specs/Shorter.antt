@@ -7,7 +7,7 @@ use lib.Dec.{ltb, eqb}
 use lib.ListN.{length}
 use Rattle.binar.specs.Bits.{select}
 use Rattle.blocks.specs.Words.{rowsOfWords}
-use Rattle.symplectic.specs.Replies.{actionQuestions}
+use Rattle.questions.specs.Replies.{actionQuestions}
 use Rattle.symplectic.specs.Matches.{matches}
 use Rattle.shorter.specs.declared.Chosen.{Chosen}
 

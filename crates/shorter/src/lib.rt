@@ -1,10 +1,11 @@
 // The shorter of two lent lists whose product is a lent action.
 // Not in the source.
-use symplectic::Action;
-use symplectic::Question;
+use actions::Action;
+use questions::Question;
 ghost use mathlib.Core.Path.{_≡_};
 ghost use Rattle.blocks.specs.Words.{rowsOfWords};
-ghost use Rattle.symplectic.specs.Actions.{capped, matrix};
+ghost use Rattle.symplectic.specs.Sizes.{capped};
+ghost use Rattle.actions.specs.Actions.{matrix};
 ghost use Rattle.symplectic.specs.Matches.{matches as matchesOf};
 ghost use Rattle.shorter.specs.Shorter.{shorterOf, shorterReply, partOf, placeOf};
 ghost use Rattle.shorter.specs.Answers.{chosenOf};
@@ -49,10 +50,10 @@ pub fn chosen_of(r: Choice) -> Chosen
 fn matches(n: u64, a: Action, list: &[u64]) -> bool
     ensures { λ r. ⌜ r ≡ matchesOf (capped n) (matrix a) (rowsOfWords n (now (list .entry))) ⌝ }
 {
-    if !symplectic::words_fit(n, list) {
+    if !questions::words_fit(n, list) {
         return false;
     }
-    symplectic::same_rows(rebuild::product_of(n, list), a)
+    actions::same_rows(rebuild::product_of(n, list), a)
 }
 
 // The shorter of the lists that match the action. The one that is to be played if it matches is multiplied out first, and the other only
@@ -77,7 +78,7 @@ fn shorter_of(n: u64, a: Action, first: &[u64], second: &[u64]) -> Choice
 pub fn choose(n: u64, rows: &[u64], first: &[u64], second: &[u64]) -> Choice
     ensures { λ r. ⌜ chosenOf r ≡ shorterReply n (now (rows .entry)) (now (first .entry)) (now (second .entry)) ⌝ }
 {
-    let question = symplectic::action_questions(n, rows);
+    let question = questions::action_questions(n, rows);
     match question {
         Question::TooManyQubits => {
             return Choice::TooManyQubits;
@@ -93,7 +94,7 @@ pub fn choose(n: u64, rows: &[u64], first: &[u64], second: &[u64]) -> Choice
         }
         Question::Passed => {}
     }
-    shorter_of(n, symplectic::from_words(n, rows), first, second)
+    shorter_of(n, actions::from_words(n, rows), first, second)
 }
 
 // The shorter of two lent lists whose product is the lent action: the lent list itself, with 0 in the lent number. A refusal leaves its

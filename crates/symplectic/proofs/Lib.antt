@@ -5,12 +5,9 @@ pub mod Qubits
 pub mod Lists
 pub mod Products
 pub mod Layers
-pub mod Arrays
+pub mod Sizes
 pub mod Work
 pub mod Tests
 pub mod Matches
-pub mod Questions
-pub mod Answered
-pub mod Listings
 pub mod Picked
 pub mod FirstPicks

@@ -1,19 +1,33 @@
--- Lists of rows compared row by row, and what it means that a list matches an action.
+-- Vectors with columns below a bound only, lists of rows compared row by row, and what it means that a list matches an action.
 -- Assumes nothing.
 use mathlib.Core.Path.{_≡_, refl, sym, ap, ap₂, _∙_}
 use mathlib.Core.Bool.{Bool, true, false, _&&_, true≢false, and-eq-true-iff}
 use mathlib.Core.List.{List, [], _∷_}
 use Prim.Native.Nat.{ℕ, _+_, _^_, _≤_, _<_}
-use lib.Dec.{eqb}
+use lib.Dec.{ltb, eqb}
 use lib.ListN.{length, getD, drop, drop-of-length-le}
-use borrow.Author.Tests.{eqb-true, eq-eqb}
+use borrow.Author.Tests.{ltb-true, eqb-true, lt-ltb, eq-eqb}
 use Rattle.blocks.specs.Matrices.{All}
-use Rattle.symplectic.specs.Turns.{product}
-use Rattle.symplectic.specs.Replies.{fitAll}
-use Rattle.symplectic.specs.Matches.{sameRows, matches}
+use Rattle.blocks.proofs.All.{All·map}
+use Rattle.symplectic.specs.Turns.{allOf, product}
+use Rattle.symplectic.specs.Matches.{fitAll, sameRows, matches}
+use Rattle.symplectic.proofs.Lists.{all-true, true-all}
 use Rattle.symplectic.proofs.FirstPicks.{drop-open}
 use Rattle.symplectic.proofs.Tests.{onward, stopped}
-use Rattle.symplectic.proofs.Questions.{fit-all, all-fit}
+
+-- ---- vectors within their width
+
+pub fit-all-is : (m : ℕ) (rows : List ℕ) → fitAll m rows ≡ allOf (λ v. ltb v (2 ^ m)) rows
+unfolding fitAll
+fit-all-is m rows = refl
+
+pub fit-all : (m : ℕ) (rows : List ℕ) → fitAll m rows ≡ true → All (λ f. f < 2 ^ m) rows
+unfolding fitAll
+fit-all m rows e = All·map (λ v t. ltb-true v (2 ^ m) t) rows (all-true (λ v. ltb v (2 ^ m)) rows e)
+
+pub all-fit : (m : ℕ) (rows : List ℕ) → All (λ f. f < 2 ^ m) rows → fitAll m rows ≡ true
+unfolding fitAll
+all-fit m rows a = true-all (λ v. ltb v (2 ^ m)) rows (All·map (λ v h. lt-ltb v (2 ^ m) h) rows a)
 
 -- ---- rows compared
 

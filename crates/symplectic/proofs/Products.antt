@@ -2,7 +2,8 @@
 -- Assumes nothing.
 use mathlib.Core.Path.{_≡_, refl, sym, ap, ap₂, _∙_, fun-ext}
 use mathlib.Core.List.{List, [], _∷_, _++_, map, map-map, map-id, reverse}
-use Prim.Native.Nat.{ℕ, suc, _+_, _*_, _^_, _<_}
+use Prim.Native.Nat.{ℕ, zero, suc, _+_, _*_, _^_, _<_}
+use native.Mathlib.Nat.{le-of-suc-le-suc, not-suc-le-zero}
 use native.Mathlib.Numerals.{add-one}
 use lib.ListN.{length, take, getD, length-map}
 use lib.Seq.{take-suc}
@@ -72,6 +73,12 @@ run-lt m n [] a u h = h
 run-lt m n (v ∷ vs) a u h = run-lt m n vs (a .1) (turn n v u) (turn-lt m n v u (a .0) h)
 
 -- ---- matrices followed by turns
+
+pub followed-at : (n : ℕ) (l : List ℕ) (v i : ℕ) → i < length l → getD (followed n l v) i 0 ≡ turn n v (getD l i 0)
+unfolding followed
+followed-at n [] v i h = absurd (not-suc-le-zero h)
+followed-at n (x ∷ l) v zero h = refl
+followed-at n (x ∷ l) v (suc i) h = followed-at n l v i (le-of-suc-le-suc h)
 
 pub followed-length : (n : ℕ) (F : List ℕ) (v : ℕ) → length (followed n F v) ≡ length F
 unfolding followed

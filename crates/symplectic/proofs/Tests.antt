@@ -84,13 +84,12 @@ zip-length [] ys = omega arith
 zip-length (x ∷ xs) [] = omega arith
 zip-length (x ∷ xs) (y ∷ ys) = omega (arith, zip-length xs ys)
 
-zip-get : (xs ys : List ℕ) (i : ℕ) → length xs ≡ length ys → getD (zip xs ys) i (0, 0) ≡ (getD xs i 0, getD ys i 0)
+zip-get : (xs ys : List ℕ) (i : ℕ) → i < length xs → i < length ys → getD (zip xs ys) i (0, 0) ≡ (getD xs i 0, getD ys i 0)
 unfolding zip zipWith
-zip-get [] [] i h = refl
-zip-get [] (y ∷ ys) i h = absurd (omega arith)
-zip-get (x ∷ xs) [] i h = absurd (omega arith)
-zip-get (x ∷ xs) (y ∷ ys) zero h = refl
-zip-get (x ∷ xs) (y ∷ ys) (suc i) h = zip-get xs ys i (omega arith)
+zip-get [] ys i h k = absurd (not-suc-le-zero h)
+zip-get (x ∷ xs) [] i h k = absurd (not-suc-le-zero k)
+zip-get (x ∷ xs) (y ∷ ys) zero h k = refl
+zip-get (x ∷ xs) (y ∷ ys) (suc i) h k = zip-get xs ys i (le-of-suc-le-suc h) (le-of-suc-le-suc k)
 
 -- rows i and j pair as their basis vectors do
 abbrev pub alike : ℕ → List ℕ → ℕ → ℕ → Bool
@@ -100,43 +99,44 @@ alike n F i j = Bool·beq (pairing n (getD F i 0) (getD F j 0)) (pairing n (2 ^ 
 abbrev pub Paired : ℕ → List ℕ → ℕ → Type 0
 Paired n F i = (a b : ℕ) → b < a → a < i → alike n F a b ≡ true
 
-module _ (n : ℕ) (F : List ℕ) (size : length F ≡ n + n) where
+-- of as many rows as there are vectors of the basis
+module _ (n : ℕ) (F : List ℕ) (count : ℕ) (size : count ≡ min (length F) (n + n)) where
   abbrev rows : List (ℕ × ℕ)
   rows = zip F (units (n + n))
 
   abbrev with : ℕ → ℕ × ℕ → Bool
   with i = pairAlike n (getD F i 0, 2 ^ i)
 
-  beside-length : length rows ≡ n + n
-  beside-length = zip-length F (units (n + n)) ∙ omega (arith, units-length (n + n))
+  beside-length : length rows ≡ count
+  beside-length = zip-length F (units (n + n)) ∙ omega (arith, size, units-length (n + n))
 
-  beside-at : (i : ℕ) → i < n + n → getD rows i (0, 0) ≡ (getD F i 0, 2 ^ i)
-  beside-at i h = zip-get F (units (n + n)) i (size ∙ sym (units-length (n + n))) ∙ ap (λ (u : ℕ). (getD F i 0, u)) (units-at i (n + n) h)
+  beside-at : (i : ℕ) → i < count → getD rows i (0, 0) ≡ (getD F i 0, 2 ^ i)
+  beside-at i h = zip-get F (units (n + n)) i (omega (arith, size)) (omega (arith, size, units-length (n + n))) ∙ ap (λ (u : ℕ). (getD F i 0, u)) (units-at i (n + n) (omega (arith, size)))
 
   -- the test of row i with row j
-  with-is : (i j : ℕ) → j < n + n → with i (getD rows j (0, 0)) ≡ alike n F i j
+  with-is : (i j : ℕ) → j < count → with i (getD rows j (0, 0)) ≡ alike n F i j
   unfolding pairAlike
   with-is i j h = ap (with i) (beside-at j h)
 
-  first-is : (i j k : ℕ) → j < k → j < n + n → with i (getD (take k rows) j (0, 0)) ≡ alike n F i j
+  first-is : (i j k : ℕ) → j < k → j < count → with i (getD (take k rows) j (0, 0)) ≡ alike n F i j
   first-is i j k l h = ap (with i) (getD-take k rows j (0, 0) l) ∙ with-is i j h
 
-  first-length : (j k : ℕ) → j < k → j < n + n → j < length (take k rows)
+  first-length : (j k : ℕ) → j < k → j < count → j < length (take k rows)
   first-length j k l h = omega (arith, length-take k rows, beside-length)
 
   -- ---- row i with the rows before it, one by one
 
-  pub basis-next : (i j : ℕ) → j < n + n → pairsBelow n F i j ≡ true → alike n F i j ≡ true → pairsBelow n F i (j + 1) ≡ true
+  pub basis-next : (i j : ℕ) → j < count → pairsBelow n F i j ≡ true → alike n F i j ≡ true → pairsBelow n F i (j + 1) ≡ true
   unfolding pairsBelow
   basis-next i j h inv e = all-next (with i) (0, 0) rows j (omega (arith, beside-length)) inv (with-is i j h ∙ e)
 
-  pub basis-fails : (i j k : ℕ) → j < k → j < n + n → alike n F i j ≡ false → false ≡ pairsBelow n F i k
+  pub basis-fails : (i j k : ℕ) → j < k → j < count → alike n F i j ≡ false → false ≡ pairsBelow n F i k
   unfolding pairsBelow
   basis-fails i j k l h e = all-fails (with i) (0, 0) (take k rows) j (first-length j k l h) (first-is i j k l h ∙ e)
 
   -- ---- the rows, one by one
 
-  pub paired-next : (i : ℕ) → i < n + n → Paired n F i → pairsBelow n F i i ≡ true → Paired n F (i + 1)
+  pub paired-next : (i : ℕ) → i < count → Paired n F i → pairsBelow n F i i ≡ true → Paired n F (i + 1)
   unfolding pairsBelow
   paired-next i h inv e a b l m =
       let upto : a ≤ i = omega arith in
@@ -148,24 +148,24 @@ module _ (n : ℕ) (F : List ℕ) (size : length F ≡ n + n) where
           sym (first-is i b i k (omega arith))
           ∙ All·at (λ x. with i x ≡ true) (take i rows) (all-true (with i) (take i rows) e) b (0, 0) (first-length b i k (omega arith))
 
-  pub symplectic-fails : (i : ℕ) → i < n + n → pairsBelow n F i i ≡ false → false ≡ symplectic n F
+  pub symplectic-fails : (i : ℕ) → i < count → pairsBelow n F i i ≡ false → false ≡ symplectic n F
   unfolding symplectic pairsBelow
   symplectic-fails i h e =
       all-fails (λ a. allOf (pairAlike n a) rows) (0, 0) rows i (omega (arith, beside-length))
       (ap (λ a. allOf (pairAlike n a) rows) (beside-at i h) ∙ some-fails (with i) rows i e)
 
   -- the pairing is the same either way round, and 0 with itself: so rows with those before them are all that is to be tested
-  pub symplectic-end : (i : ℕ) → n + n ≤ i → Paired n F i → true ≡ symplectic n F
+  pub symplectic-end : (i : ℕ) → count ≤ i → Paired n F i → true ≡ symplectic n F
   unfolding symplectic
   symplectic-end i h inv =
       sym (all-each (λ a. allOf (pairAlike n a) rows) (0, 0) rows (λ a k.
       ap (λ x. allOf (pairAlike n x) rows) (beside-at a (inside a k))
       ∙ all-each (with a) (0, 0) rows (λ b l. with-is a b (inside b l) ∙ every a b (inside a k) (inside b l) (ltb b a) refl)))
     where
-      inside : (a : ℕ) → a < length rows → a < n + n
+      inside : (a : ℕ) → a < length rows → a < count
       inside a k = omega (arith, beside-length)
 
-      every : (a b : ℕ) → a < n + n → b < n + n → (less : Bool) → ltb b a ≡ less → alike n F a b ≡ true
+      every : (a b : ℕ) → a < count → b < count → (less : Bool) → ltb b a ≡ less → alike n F a b ≡ true
       every a b k l true e = inv a b (ltb-true b a e) (omega arith)
       every a b k l false e =
           ⊎-elim

@@ -1,7 +1,5 @@
 pub mod Turns
 pub mod Picks
-pub mod Actions
-pub mod Replies
+pub mod Sizes
 pub mod Matches
-pub mod Answers
 pub mod inner

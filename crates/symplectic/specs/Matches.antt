@@ -1,11 +1,14 @@
--- Whether the turns of a list play an action.
+-- Whether vectors have columns below 2n only, and whether the turns of a list play an action.
 -- Assumes nothing.
 use mathlib.Core.Bool.{Bool, true, false, _&&_}
 use mathlib.Core.List.{List, [], _∷_}
-use Prim.Native.Nat.{ℕ, _+_}
-use lib.Dec.{eqb}
-use Rattle.symplectic.specs.Turns.{product}
-use Rattle.symplectic.specs.Replies.{fitAll}
+use Prim.Native.Nat.{ℕ, _+_, _^_}
+use lib.Dec.{ltb, eqb}
+use Rattle.symplectic.specs.Turns.{allOf, product}
+
+-- each row is free of bits from m up
+unfoldable pub fitAll : ℕ → List ℕ → Bool
+fitAll m rows = allOf (λ v. ltb v (2 ^ m)) rows
 
 -- two lists of numbers are equal
 abbrev pub sameRows : List ℕ → List ℕ → Bool

@@ -8,12 +8,12 @@ use lib.ListN.{length, take}
 use Rattle.blocks.specs.Matrices.{All}
 use Rattle.blocks.specs.Words.{rowsOfWords, laid}
 use Rattle.blocks.proofs.Values.{rows-count, laid-front}
-use Rattle.symplectic.specs.Actions.{maxQubits}
-use Rattle.symplectic.specs.declared.Figures.{Figures}
-use Rattle.symplectic.specs.Replies.{Reply, refused, listed, actionQuestions, listQuestions, Replays}
-use Rattle.symplectic.proofs.Questions.{question-2, passed-size, passed-count, passed-rows, passed-symplectic, list-refused, list-known, reply-refused}
-use Rattle.symplectic.proofs.Answered.{Holds, holds-unless, rows-wide, refused-replays, listed-replays}
-use Rattle.symplectic.proofs.Listings.{ListCall}
+use Rattle.symplectic.specs.Sizes.{maxQubits}
+use Rattle.questions.specs.declared.Figures.{Figures}
+use Rattle.questions.specs.Replies.{Reply, refused, listed, actionQuestions, listQuestions, Replays}
+use Rattle.questions.proofs.Questions.{question-2, passed-size, passed-count, passed-rows, passed-symplectic, list-refused, list-known, reply-refused}
+use Rattle.questions.proofs.Answered.{Holds, holds-unless, rows-wide, refused-replays, listed-replays}
+use Rattle.questions.proofs.Listings.{ListCall}
 use Rattle.transvection.specs.Greedy.{greedyList, greedyReply}
 use Rattle.transvection.proofs.Records.{Action}
 use Rattle.transvection.proofs.Ends.{greedy-product, greedy-length, greedy-lt}

@@ -10,7 +10,7 @@ use Rattle.blocks.specs.Matrices.{units}
 use Rattle.blocks.specs.Words.{rowsOfWords}
 use Rattle.symplectic.specs.Turns.{pairing, followed, identityPlus}
 use Rattle.symplectic.specs.Picks.{orIf, orElse, mapSome, pick, addBoth}
-use Rattle.symplectic.specs.Replies.{Reply, listed, unlessRefused, listQuestions}
+use Rattle.questions.specs.Replies.{Reply, listed, unlessRefused, listQuestions}
 
 -- each row of I + F beside its basis vector
 unfoldable pub besideBasis : ℕ → List ℕ → List (ℕ × ℕ)

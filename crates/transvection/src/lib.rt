@@ -1,8 +1,8 @@
 // The greedy list: turns that undo an action, each found in the matrix I + F, laid in reverse into lent words.
 // In the source: transvection.rs, `clifford_to_transvections`, `symplectic_residue_matrix`, `next_transvection`.
+use actions::Action;
 use binar::Row;
-use symplectic::Action;
-use symplectic::Listing;
+use questions::Listing;
 ghost use mathlib.Core.Path.{_≡_};
 ghost use mathlib.Core.List.{reverse};
 ghost use Prim.Native.Nat.{_+_, _*_, _^_, _≤_, _<_};
@@ -11,9 +11,10 @@ ghost use Rattle.binar.specs.Bits.{_⊕_};
 ghost use Rattle.binar.specs.Rows.{width, val};
 ghost use Rattle.blocks.specs.Words.{laid, rowsIn, over};
 ghost use Rattle.symplectic.specs.Turns.{pairing, identityPlus};
-ghost use Rattle.symplectic.specs.Actions.{maxQubits, qubits, matrix};
-ghost use Rattle.symplectic.specs.Replies.{Replays};
-ghost use Rattle.symplectic.specs.Answers.{figuresOf};
+ghost use Rattle.symplectic.specs.Sizes.{maxQubits};
+ghost use Rattle.actions.specs.Actions.{qubits, matrix};
+ghost use Rattle.questions.specs.Replies.{Replays};
+ghost use Rattle.questions.specs.Answers.{figuresOf};
 ghost use Rattle.transvection.specs.Greedy.{firstNonzero, nextTransvection, recorded, greedyList, greedyReply};
 ghost use Rattle.transvection.specs.inner.Searches.{chosen, oneFrom, withFrom, pairFrom};
 
@@ -171,7 +172,7 @@ fn load(a: Action, w: &mut [u64])
     requires { ⌜ qubits a + qubits a ≤ length (rowsIn (now w)) ⌝ }
     ensures { λ _. ⌜ rowsIn (now (w .exit)) ≡ over (matrix a) (rowsIn (now (w .entry))) ⌝ }
 {
-    let n = symplectic::qubits_of(a);
+    let n = actions::qubits_of(a);
     let count = n + n;
     for i in 0..count {
         blocks::put(w, i, a.rows[i]);
@@ -186,7 +187,7 @@ fn lay_list(a: Action, out: &mut [u64]) -> usize
     let mut w = [0u64; symplectic::MOST_ROWS];
     let mut kept = [0u64; RECORD_ROOM];
     load(a, &mut w);
-    let n = symplectic::qubits_of(a);
+    let n = actions::qubits_of(a);
     let to = blocks::start(&w, n + n);
     let count = record_turns(n as u64, &mut w[..to], &mut kept);
     store_reversed(n as u64, &kept, count, out);
@@ -200,7 +201,7 @@ pub fn clifford_to_transvections(n: u64, rows: &[u64], out: &mut [u64]) -> Listi
     ensures replays { λ r. ⌜ Replays n (now (rows .entry)) (now (out .exit)) (figuresOf r) ⌝ }
     ensures few { λ r. ⌜ figuresOf r .count ≤ 4 * n ⌝ }
 {
-    let asked = symplectic::listing_of(symplectic::action_questions(n, rows));
+    let asked = questions::listing_of(questions::action_questions(n, rows));
     let Listing::Listed { count: _ } = asked else {
         return asked;
     };
@@ -208,7 +209,7 @@ pub fn clifford_to_transvections(n: u64, rows: &[u64], out: &mut [u64]) -> Listi
     if out.len() < wanted as usize {
         return Listing::OutputTooShort;
     }
-    let count = lay_list(symplectic::from_words(n, rows), out);
+    let count = lay_list(actions::from_words(n, rows), out);
     Listing::Listed {
         count: count as u64,
     }

@@ -5,10 +5,10 @@ use mathlib.Core.List.{List}
 use Prim.Native.Nat.{ℕ, suc, _+_}
 use lib.ListN.{length}
 use Rattle.blocks.specs.Words.{rowsOfWords}
-use Rattle.symplectic.specs.declared.Figures.{Figures}
-use Rattle.symplectic.specs.Replies.{Reply, refused, actionQuestions, listQuestions, Replays}
-use Rattle.symplectic.proofs.Questions.{list-refused}
-use Rattle.symplectic.proofs.Answered.{Meets, Holds, meets-refused, meets-answer}
+use Rattle.questions.specs.declared.Figures.{Figures}
+use Rattle.questions.specs.Replies.{Reply, refused, actionQuestions, listQuestions, Replays}
+use Rattle.questions.proofs.Questions.{list-refused}
+use Rattle.questions.proofs.Answered.{Meets, Holds, meets-refused, meets-answer}
 use Rattle.triangular.specs.Search.{budgeted}
 use Rattle.transvection_exact.specs.Minimal.{coreSearch, searchedReply, minimalReply}
 use Rattle.transvection_exact.specs.Answers.{Shortest, Exact}

@@ -9,9 +9,9 @@ use native.Mathlib.Nat.{le-trans}
 use lib.ListN.{length, take}
 use Rattle.blocks.specs.Words.{rowsOfWords}
 use Rattle.blocks.proofs.Values.{laid-front}
-use Rattle.symplectic.specs.Actions.{maxQubits}
-use Rattle.symplectic.specs.Replies.{Reply, refused, listed}
-use Rattle.symplectic.proofs.Answered.{rows-wide}
+use Rattle.symplectic.specs.Sizes.{maxQubits}
+use Rattle.questions.specs.Replies.{Reply, refused, listed}
+use Rattle.questions.proofs.Answered.{rows-wide}
 use Rattle.bordered.specs.Checks.{borderedList}
 use Rattle.transvection_exact.proofs.Least.{ShortestList}
 

@@ -10,8 +10,8 @@ use Rattle.blocks.specs.Words.{rowsIn}
 use Rattle.blocks.specs.Matrices.{units, matmul}
 use Rattle.blocks.proofs.Products.{matmul-is}
 use Rattle.blocks.proofs.Units.{units-length}
-use Rattle.symplectic.specs.Actions.{maxQubits}
-use Rattle.symplectic.specs.Replies.{Reply, refused, listed}
+use Rattle.symplectic.specs.Sizes.{maxQubits}
+use Rattle.questions.specs.Replies.{Reply, refused, listed}
 use Rattle.reduction.specs.Residue.{basis, core, form}
 use Rattle.reduction.proofs.Core.{core-length}
 use Rattle.reduction.proofs.Forms.{formOf}

@@ -12,10 +12,10 @@ use borrow.Author.Tests.{leb-true, leb-false}
 use Rattle.blocks.specs.Matrices.{times, All}
 use Rattle.blocks.specs.Words.{rowsOfWords}
 use Rattle.blocks.proofs.Values.{rows-count}
-use Rattle.symplectic.specs.Actions.{maxQubits}
+use Rattle.symplectic.specs.Sizes.{maxQubits}
 use Rattle.symplectic.specs.Turns.{product}
-use Rattle.symplectic.specs.Replies.{Reply, refused, unlessRefused, actionQuestions, listQuestions}
-use Rattle.symplectic.proofs.Questions.{question-2, list-small, passed-size, passed-count, passed-rows, passed-symplectic, list-refused, list-known, reply-refused}
+use Rattle.questions.specs.Replies.{Reply, refused, unlessRefused, actionQuestions, listQuestions}
+use Rattle.questions.proofs.Questions.{question-2, list-small, passed-size, passed-count, passed-rows, passed-symplectic, list-refused, list-known, reply-refused}
 use Rattle.reduction.specs.Residue.{basis}
 use Rattle.triangular.specs.Search.{Outcome, found, failed, looksOf, endedIf, budgeted}
 use Rattle.triangular.proofs.Budgets.{budgeted-is}

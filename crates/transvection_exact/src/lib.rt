@@ -1,19 +1,19 @@
 // The minimal list: as few turns as any list of the action has, laid into lent words.
 // In the source: transvection_exact.rs, `minimal_decomposition`, `clifford_to_transvections_minimal`.
+use actions::Action;
 use binar::WIDTH;
 use blocks::Block;
 use bordered::Candidate;
-use symplectic::Action;
-use symplectic::Figures;
+use questions::Figures;
+use questions::Question;
 use symplectic::MOST_ROWS;
-use symplectic::Question;
 use triangular::Ending;
 ghost use mathlib.Core.Path.{_≡_};
 ghost use Rattle.blocks.specs.Blocks.{rowsOf};
 ghost use Rattle.blocks.specs.Matrices.{matmul};
 ghost use Rattle.blocks.specs.Words.{rowsIn};
-ghost use Rattle.symplectic.specs.Actions.{qubits, matrix};
-ghost use Rattle.symplectic.specs.Replies.{listed, Replays};
+ghost use Rattle.actions.specs.Actions.{qubits, matrix};
+ghost use Rattle.questions.specs.Replies.{listed, Replays};
 ghost use Rattle.reduction.specs.Residue.{basis as basisOf, core as coreOf};
 ghost use Rattle.triangular.specs.Search.{budgeted};
 ghost use Rattle.transvection_exact.specs.Minimal.{coreSearch, searchedReply, minimalReply};
@@ -109,7 +109,7 @@ fn from_core(a: Action, basis: &[u64], core: &[u64], budget: u64, out: &mut [u64
     ensures answered { λ r. ⌜ figuresOf r ≡ searchedReply (qubits a) (matrix a) (budgeted budget (coreSearch (qubits a) (matrix a))) (now (out .entry)) .figures ⌝ }
     ensures left { λ r. ⌜ now (out .exit) ≡ searchedReply (qubits a) (matrix a) (budgeted budget (coreSearch (qubits a) (matrix a))) (now (out .entry)) .words ⌝ }
 {
-    let n = symplectic::qubits_of(a) as u64;
+    let n = actions::qubits_of(a) as u64;
     let mut list = [0u64; WIDTH];
     let o = search::congruence_triangularize(core, budget, &mut list);
     let looks = o.looks;
@@ -162,7 +162,7 @@ pub fn clifford_to_transvections_minimal(
     ensures shortest { λ r. ⌜ Shortest n (now (rows .entry)) (figuresOf r) ⌝ }
     ensures exact { λ r. ⌜ Exact n (now (rows .entry)) budget (now (out .entry)) (figuresOf r) ⌝ }
 {
-    let question = symplectic::action_questions(n, rows);
+    let question = questions::action_questions(n, rows);
     match question {
         Question::TooManyQubits => {
             return Minimal::TooManyQubits;
@@ -182,5 +182,5 @@ pub fn clifford_to_transvections_minimal(
     if out.len() < wanted as usize {
         return Minimal::OutputTooShort;
     }
-    searched(symplectic::from_words(n, rows), budget, out)
+    searched(actions::from_words(n, rows), budget, out)
 }

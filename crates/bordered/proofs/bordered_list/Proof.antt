@@ -5,7 +5,7 @@ use Rattle.bordered.specs.Readings.{listedOf}
 use Rattle.bordered.specs.Checks.{verifiesBordered, checkedList, coreFamily}
 use Rattle.family.specs.declared.Construction.the-variants.{Made}
 use Rattle.triangular.specs.Readings.{coreIn}
-use Rattle.symplectic.specs.Actions.{qubits, matrix}
+use Rattle.actions.specs.Actions.{qubits, matrix}
 use Rattle.symplectic.specs.Picks.{when}
 use Rattle.blocks.specs.Matrices.{matmul}
 use Rattle.blocks.specs.Blocks.{rowsOf}

@@ -1,7 +1,7 @@
 -- `turnlist_fixed_space` answers as `clifford_fixed_space`, and leaves a refused call's numbers as they were, by `lent-fixed`.
 -- Assumes nothing.
 use mathlib.Core.Path.{refl, sym, subst}
-use Rattle.symplectic.proofs.Answered.{Meets}
+use Rattle.questions.proofs.Answered.{Meets}
 use Rattle.fixed_space.specs.FixedSpace.{fixedReply}
 use Rattle.fixed_space.proofs.Replied.{Promised}
 use Rattle.cabi.proofs.Lent.{lent-fixed}

@@ -1,8 +1,8 @@
 -- `turnlist_gates` answers as `gate_action`, and leaves a refused call's numbers as they were, by `lent-rebuilds`.
 -- Assumes nothing.
 use mathlib.Core.Path.{refl, sym, subst}
-use Rattle.symplectic.specs.Replies.{Rebuilds}
-use Rattle.symplectic.proofs.Answered.{Meets}
+use Rattle.questions.specs.Replies.{Rebuilds}
+use Rattle.questions.proofs.Answered.{Meets}
 use Rattle.gates.specs.Sequences.{sequenceTurns, gatesReply}
 use Rattle.cabi.proofs.Lent.{lent-rebuilds}
 use borrow.Author.Needs.{needs}

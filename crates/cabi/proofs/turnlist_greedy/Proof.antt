@@ -2,7 +2,7 @@
 -- Assumes nothing.
 use mathlib.Core.Path.{refl, sym, subst}
 use Prim.Native.Nat.{_*_}
-use Rattle.symplectic.proofs.Answered.{Meets}
+use Rattle.questions.proofs.Answered.{Meets}
 use Rattle.transvection.specs.Greedy.{greedyReply}
 use Rattle.transvection.proofs.Replied.{Promised}
 use Rattle.cabi.proofs.Lent.{lent-replays}

@@ -1,7 +1,7 @@
 -- `turnlist_minimal` answers as `clifford_to_transvections_minimal`, and leaves a refused call's numbers as they were, by `lent-shortest`.
 -- Assumes nothing.
 use mathlib.Core.Path.{refl, sym, subst}
-use Rattle.symplectic.proofs.Answered.{Meets}
+use Rattle.questions.proofs.Answered.{Meets}
 use Rattle.transvection_exact.specs.Minimal.{minimalReply}
 use Rattle.transvection_exact.proofs.Answered.{Promised}
 use Rattle.cabi.proofs.Lent.{lent-shortest}

@@ -2,8 +2,8 @@
 -- Assumes nothing.
 use mathlib.Core.Path.{refl, sym, subst}
 use Rattle.blocks.specs.Words.{rowsOfWords}
-use Rattle.symplectic.specs.Replies.{Rebuilds}
-use Rattle.symplectic.proofs.Answered.{Meets}
+use Rattle.questions.specs.Replies.{Rebuilds}
+use Rattle.questions.proofs.Answered.{Meets}
 use Rattle.rebuild.specs.Rebuilds.{rebuildReply}
 use Rattle.cabi.proofs.Lent.{lent-rebuilds}
 use borrow.Author.Needs.{needs}

@@ -8,11 +8,11 @@ use native.Mathlib.Omega.{arith}
 use lib.ListN.{length}
 use Rattle.blocks.specs.Blocks.{rowsOf}
 use Rattle.blocks.specs.Words.{rowsOfWords, laid}
-use Rattle.symplectic.specs.Actions.{maxQubits}
-use Rattle.symplectic.specs.Replies.{actionQuestions}
-use Rattle.symplectic.proofs.Arrays.{loaded}
-use Rattle.symplectic.proofs.Questions.{passed-size, passed-count}
-use Rattle.symplectic.proofs.Listings.{listing-passed, listing-early, listing-short, listing-answer}
+use Rattle.symplectic.specs.Sizes.{maxQubits}
+use Rattle.questions.specs.Replies.{actionQuestions}
+use Rattle.actions.proofs.Arrays.{loaded}
+use Rattle.questions.proofs.Questions.{passed-size, passed-count}
+use Rattle.questions.proofs.Listings.{listing-passed, listing-early, listing-short, listing-answer}
 use Rattle.fixed_space.specs.FixedSpace.{fixedSpace}
 use Rattle.fixed_space.proofs.Replied.{fixed-call}
 use borrow.Author.Needs.{needs}

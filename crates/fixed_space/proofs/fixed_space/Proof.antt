@@ -6,8 +6,8 @@ use Prim.Native.Nat.{ℕ, _+_}
 use native.Mathlib.Omega.{arith}
 use lib.ListN.{length}
 use Rattle.blocks.proofs.Values.{unmapped}
-use Rattle.symplectic.specs.Actions.{qubits, matrix}
-use Rattle.symplectic.proofs.Arrays.{qubits-le, matrix-length}
+use Rattle.actions.specs.Actions.{qubits, matrix}
+use Rattle.actions.proofs.Arrays.{qubits-le, matrix-length}
 use Rattle.reduction.proofs.Parts.{plus-length}
 use Rattle.fixed_space.specs.FixedSpace.{kernel, reducedBasis, fixedSpace}
 use borrow.Author.Needs.{needs}

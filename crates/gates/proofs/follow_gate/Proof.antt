@@ -7,7 +7,7 @@ use native.Mathlib.Omega.{arith}
 use lib.ListN.{length, getD, drop}
 use Rattle.blocks.specs.Words.{rowsIn}
 use Rattle.symplectic.specs.Turns.{followed, followedBy}
-use Rattle.symplectic.proofs.Arrays.{capped-is}
+use Rattle.symplectic.proofs.Sizes.{capped-is}
 use Rattle.gates.specs.Sheet.{gate, turnVector}
 use Rattle.blocks.proofs.All.{All·at}
 use Rattle.gates.proofs.Turned.{Second, second-read, turns-count, turns-at, turns-next, turns-end}

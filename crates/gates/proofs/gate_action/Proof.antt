@@ -3,7 +3,7 @@
 use Prim.Native.Nat.{_+_}
 use native.Mathlib.Omega.{arith}
 use lib.ListN.{replicate}
-use Rattle.symplectic.specs.Actions.{mostRows}
+use Rattle.symplectic.specs.Sizes.{mostRows}
 use Rattle.symplectic.proofs.Work.{room-in, part-words, part-rows}
 use Rattle.gates.proofs.Replied.{gates-1, gates-2}
 use borrow.Author.Needs.{needs}

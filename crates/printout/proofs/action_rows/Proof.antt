@@ -6,7 +6,7 @@ use Prim.Native.Nat.{_*_, _-_, _≤_}
 use native.Mathlib.Omega.{arith}
 use lib.ListN.{length, take, length-set}
 use borrow.Author.Needs.{needs}
-use Rattle.symplectic.specs.Actions.{mostRows}
+use Rattle.symplectic.specs.Sizes.{mostRows}
 use Rattle.job.specs.Files.{part}
 use Rattle.printout.specs.Printout.{wordsOfBytes}
 use Rattle.printout.proofs.Words.{words-none, words-more}

@@ -6,7 +6,7 @@ use native.Mathlib.Omega.{arith}
 use lib.ListN.{length, take}
 use lib.Seq.{length-take-le}
 use borrow.Author.Needs.{needs}
-use Rattle.symplectic.specs.Actions.{mostRows}
+use Rattle.symplectic.specs.Sizes.{mostRows}
 use Rattle.lines.proofs.Fits.{mostVectors}
 use Rattle.printout.proofs.Lent.{lent-length, left-room, left-count}
 use Rattle.printout.proofs.Printing.{line-left}

@@ -6,7 +6,7 @@ use Prim.Native.Nat.{ℕ, _+_, _-_, _≤_}
 use native.Mathlib.Omega.{arith}
 use lib.ListN.{length, take, drop, replicate}
 use borrow.Author.Needs.{needs}
-use Rattle.symplectic.specs.Actions.{maxQubits, mostRows}
+use Rattle.symplectic.specs.Sizes.{maxQubits, mostRows}
 use Rattle.gates.specs.Sequences.{gatesReply}
 use Rattle.job.specs.Files.{part, qubitCount, Entry, entry, partSize, entryPasses}
 use Rattle.job.specs.Answers.{entryOf}

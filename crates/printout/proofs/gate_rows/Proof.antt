@@ -3,7 +3,7 @@
 use Prim.Native.Nat.{_+_}
 use borrow.Author.Needs.{needs}
 use mathlib.Core.Path.{_∙_}
-use Rattle.symplectic.specs.Actions.{mostRows}
+use Rattle.symplectic.specs.Sizes.{mostRows}
 use Rattle.printout.proofs.Lent.{lent-length}
 use Rattle.printout.proofs.Holding.{gates-loaded, gates-refused}
 use Rattle.printout.proofs.gate_rows.Statement.{statement}

@@ -4,7 +4,7 @@ use mathlib.Core.Path.{_≡_, _∙_}
 use Prim.Native.Nat.{_≤_}
 use native.Mathlib.Omega.{arith}
 use borrow.Author.Needs.{needs}
-use Rattle.symplectic.specs.Actions.{maxQubits}
+use Rattle.symplectic.specs.Sizes.{maxQubits}
 use Rattle.job.proofs.Checks.{passed-qubits}
 use Rattle.printout.specs.declared.EntryAction.the-variants.{Rows}
 use Rattle.printout.proofs.Printing.{line-passed, line-refused}

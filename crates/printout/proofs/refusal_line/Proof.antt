@@ -4,7 +4,7 @@ use mathlib.Core.Path.{refl, _∙_}
 use mathlib.Core.List.{[]}
 use native.Mathlib.Omega.{arith}
 use borrow.Author.Needs.{needs}
-use Rattle.symplectic.specs.Replies.{refused}
+use Rattle.questions.specs.Replies.{refused}
 use Rattle.lines.proofs.Fits.{line-figures}
 use Rattle.printout.proofs.refusal_line.Statement.{statement}
 use Rattle.printout.proofs.refusal_line.Tie as tie

@@ -5,7 +5,7 @@ use mathlib.Core.List.{List}
 use mathlib.Core.Logic.{_⊎_}
 use Prim.Native.Nat.{ℕ, _+_}
 use lib.ListN.{length, take}
-use Rattle.symplectic.specs.Replies.{Reply}
+use Rattle.questions.specs.Replies.{Reply}
 use Rattle.printout.specs.declared.EntryAction.{EntryAction}
 use Rattle.printout.specs.declared.EntryAction.the-variants.{Rows, Refused}
 use Rattle.printout.specs.declared.EntryRows.{EntryRows}

@@ -8,9 +8,10 @@ use lib.Seq.{take-all}
 use Rattle.binar.specs.Rows.{val}
 use Rattle.blocks.specs.Words.{rowsOfWords, rowsIn}
 use Rattle.blocks.proofs.Values.{rows-count, rows-word}
-use Rattle.symplectic.specs.Actions.{capped, padded}
+use Rattle.symplectic.specs.Sizes.{capped}
+use Rattle.actions.specs.Actions.{padded}
 use Rattle.symplectic.specs.Turns.{product}
-use Rattle.symplectic.proofs.Arrays.{padded-is}
+use Rattle.actions.proofs.Arrays.{padded-is}
 use Rattle.symplectic.proofs.Products.{product-nil, product-more, product-length}
 use Rattle.symplectic.proofs.Work.{identity-whole}
 use borrow.Author.Needs.{needs}

@@ -4,8 +4,8 @@ use Prim.Native.Nat.{_+_, _≤_}
 use mathlib.Core.Path.{_∙_}
 use native.Mathlib.Omega.{arith}
 use lib.ListN.{replicate}
-use Rattle.symplectic.specs.Actions.{mostRows}
-use Rattle.symplectic.proofs.Arrays.{capped-le}
+use Rattle.symplectic.specs.Sizes.{mostRows}
+use Rattle.symplectic.proofs.Sizes.{capped-le}
 use Rattle.symplectic.proofs.Work.{room-in, part-words, part-rows}
 use borrow.Author.Needs.{needs}
 use Rattle.rebuild.proofs.product_of.Statement.{statement}

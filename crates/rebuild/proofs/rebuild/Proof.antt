@@ -7,9 +7,9 @@ use native.Mathlib.Omega.{arith}
 use borrow.Author.Tests.{not-true, not-false}
 use Rattle.blocks.specs.Words.{rowsOfWords, laid}
 use Rattle.symplectic.specs.Turns.{product}
-use Rattle.symplectic.specs.Replies.{fitAll}
-use Rattle.symplectic.proofs.Arrays.{capped-is}
-use Rattle.symplectic.proofs.Questions.{fit-capped}
+use Rattle.symplectic.specs.Matches.{fitAll}
+use Rattle.symplectic.proofs.Sizes.{capped-is}
+use Rattle.questions.proofs.Questions.{fit-capped}
 use Rattle.rebuild.proofs.Replied.{rebuild-1, rebuild-2, rebuild-8, rebuild-listed}
 use borrow.Author.Needs.{needs}
 use Rattle.rebuild.proofs.rebuild.Statement.{statement}

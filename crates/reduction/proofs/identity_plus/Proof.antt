@@ -2,7 +2,7 @@
 -- Assumes nothing.
 use mathlib.Core.Path.{_∙_}
 use mathlib.Core.List.{append-nil}
-use Rattle.symplectic.specs.Actions.{qubits, matrix}
+use Rattle.actions.specs.Actions.{qubits, matrix}
 use Rattle.symplectic.specs.Turns.{identityPlus}
 use borrow.Author.Needs.{needs}
 use Rattle.reduction.proofs.identity_plus.Statement.{statement}

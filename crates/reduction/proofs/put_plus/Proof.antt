@@ -9,10 +9,11 @@ use Rattle.binar.proofs.Ones.{unit-is}
 use Rattle.blocks.specs.Words.{rowsIn}
 use Rattle.blocks.proofs.Overs.{over-next}
 use Rattle.blocks.proofs.Values.{unmapped}
-use Rattle.symplectic.specs.declared.Action.{Action}
-use Rattle.symplectic.specs.Actions.{mostRows, qubits, matrix}
+use Rattle.actions.specs.declared.Action.{Action}
+use Rattle.symplectic.specs.Sizes.{mostRows}
+use Rattle.actions.specs.Actions.{qubits, matrix}
 use Rattle.symplectic.specs.Turns.{identityPlus}
-use Rattle.symplectic.proofs.Arrays.{qubits-le, matrix-length, matrix-get}
+use Rattle.actions.proofs.Arrays.{qubits-le, matrix-length, matrix-get}
 use Rattle.reduction.proofs.Loops.{put-all}
 use Rattle.reduction.proofs.Parts.{plus-from-length, plus-from-at}
 use native.Mathlib.Omega.{arith}

@@ -6,9 +6,9 @@ use Prim.Native.Nat.{ℕ, _+_}
 use lib.ListN.{length, take, drop}
 use Rattle.blocks.specs.Words.{rowsIn, over}
 use Rattle.blocks.proofs.Values.{unmapped}
-use Rattle.symplectic.specs.Actions.{qubits, matrix}
+use Rattle.actions.specs.Actions.{qubits, matrix}
 use Rattle.symplectic.specs.Turns.{identityPlus}
-use Rattle.symplectic.proofs.Arrays.{qubits-le, matrix-length}
+use Rattle.actions.proofs.Arrays.{qubits-le, matrix-length}
 use Rattle.reduction.specs.Residue.{residue}
 use Rattle.reduction.proofs.Parts.{residue-from, rank-in-rows, rank-in-transform, rank-wide, rank-end, basis-end, core-end}
 use Rattle.blocks.proofs.Lent.{lent-same}

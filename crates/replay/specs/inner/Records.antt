@@ -2,7 +2,7 @@
 -- Assumes nothing.
 use mathlib.Core.Path.{_≡_}
 use Prim.Native.Nat.{ℕ, _-_, _≤_}
-use Rattle.symplectic.specs.declared.Figures.{Figures}
+use Rattle.questions.specs.declared.Figures.{Figures}
 use Rattle.replay.specs.declared.Case.{Case}
 
 -- the answer is that of the record

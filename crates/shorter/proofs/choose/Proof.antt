@@ -4,12 +4,13 @@ use mathlib.Core.Path.{_≡_, refl, sym, ap, ap₂, _∙_}
 use mathlib.Core.List.{List}
 use Prim.Native.Nat.{ℕ}
 use Rattle.blocks.specs.Words.{rowsOfWords}
-use Rattle.symplectic.specs.declared.Question.{Question}
-use Rattle.symplectic.specs.declared.Question.the-variants.{Passed, TooManyQubits, WrongRowCount, RowTooWide, NotSymplectic}
-use Rattle.symplectic.specs.Answers.{numberOf}
-use Rattle.symplectic.specs.Replies.{actionQuestions}
-use Rattle.symplectic.proofs.Arrays.{capped-is, loaded}
-use Rattle.symplectic.proofs.Questions.{passed-size, passed-count}
+use Rattle.questions.specs.declared.Question.{Question}
+use Rattle.questions.specs.declared.Question.the-variants.{Passed, TooManyQubits, WrongRowCount, RowTooWide, NotSymplectic}
+use Rattle.questions.specs.Answers.{numberOf}
+use Rattle.questions.specs.Replies.{actionQuestions}
+use Rattle.symplectic.proofs.Sizes.{capped-is}
+use Rattle.actions.proofs.Arrays.{loaded}
+use Rattle.questions.proofs.Questions.{passed-size, passed-count}
 use Rattle.shorter.specs.Shorter.{shorterOf}
 use Rattle.shorter.proofs.Choices.{reply-asked}
 use borrow.Author.Needs.{needs}

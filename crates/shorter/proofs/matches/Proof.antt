@@ -5,10 +5,10 @@ use mathlib.Core.List.{List}
 use Prim.Native.Nat.{ℕ, _+_}
 use borrow.Author.Tests.{not-true, not-false}
 use Rattle.blocks.specs.Words.{rowsOfWords}
-use Rattle.symplectic.specs.Actions.{capped, matrix}
+use Rattle.symplectic.specs.Sizes.{capped}
+use Rattle.actions.specs.Actions.{matrix}
 use Rattle.symplectic.specs.Turns.{product}
-use Rattle.symplectic.specs.Replies.{fitAll}
-use Rattle.symplectic.specs.Matches.{sameRows}
+use Rattle.symplectic.specs.Matches.{fitAll, sameRows}
 use Rattle.symplectic.proofs.Tests.{and-no, and-yes}
 use Rattle.symplectic.proofs.Matches.{matches-is}
 use borrow.Author.Needs.{needs}

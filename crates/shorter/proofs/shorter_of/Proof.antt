@@ -8,7 +8,8 @@ use lib.ListN.{length}
 use borrow.Author.Tests.{not-false}
 use Rattle.blocks.specs.Words.{rowsOfWords}
 use Rattle.blocks.proofs.Values.{rows-count}
-use Rattle.symplectic.specs.Actions.{capped, matrix}
+use Rattle.symplectic.specs.Sizes.{capped}
+use Rattle.actions.specs.Actions.{matrix}
 use Rattle.symplectic.specs.Matches.{matches}
 use Rattle.shorter.proofs.Choices.{shorter-second, first-matches, first-alone, second-alone, neither-matches}
 use borrow.Author.Needs.{needs}

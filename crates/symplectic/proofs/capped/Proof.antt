@@ -1,6 +1,6 @@
 -- `capped` answers the lesser of n and the most qubits.
 -- Assumes nothing.
-use Rattle.symplectic.specs.Actions.{capped}
+use Rattle.symplectic.specs.Sizes.{capped}
 use borrow.Author.Needs.{needs}
 use Rattle.symplectic.proofs.capped.Statement.{statement}
 use Rattle.symplectic.proofs.capped.Tie as tie

@@ -9,12 +9,12 @@ use lib.ListN.{length, take, drop}
 use Rattle.binar.specs.Rows.{val}
 use Rattle.blocks.specs.Words.{rowsIn}
 use Rattle.blocks.proofs.Overs.{over-next}
-use Rattle.symplectic.specs.Actions.{capped}
+use Rattle.symplectic.specs.Sizes.{capped}
 use Rattle.symplectic.specs.Turns.{turn, followed}
 use Rattle.symplectic.specs.inner.Vectors.{swapHalves}
 use Rattle.symplectic.proofs.Pairings.{swap-turn}
-use Rattle.symplectic.proofs.Products.{followed-length}
-use Rattle.symplectic.proofs.Arrays.{capped-le, followed-at}
+use Rattle.symplectic.proofs.Products.{followed-length, followed-at}
+use Rattle.symplectic.proofs.Sizes.{capped-le}
 use Rattle.blocks.proofs.Overs.{over-left, over-whole}
 use borrow.Author.Needs.{needs}
 use Rattle.symplectic.proofs.follow.Statement.{statement}

@@ -11,8 +11,8 @@ use Rattle.blocks.specs.Matrices.{units}
 use Rattle.blocks.specs.Words.{rowsIn}
 use Rattle.blocks.proofs.Units.{units-length, units-at}
 use Rattle.blocks.proofs.Overs.{over-next, over-end}
-use Rattle.symplectic.specs.Actions.{capped}
-use Rattle.symplectic.proofs.Arrays.{capped-le}
+use Rattle.symplectic.specs.Sizes.{capped}
+use Rattle.symplectic.proofs.Sizes.{capped-le}
 use borrow.Author.Needs.{needs}
 use Rattle.symplectic.proofs.put_identity.Statement.{statement}
 use Rattle.symplectic.proofs.put_identity.Tie as tie

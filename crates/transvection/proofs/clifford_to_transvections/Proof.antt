@@ -7,11 +7,12 @@ use Prim.Native.Nat.{ℕ, _≤_}
 use native.Mathlib.Omega.{arith}
 use lib.ListN.{length}
 use Rattle.blocks.specs.Words.{rowsOfWords, laid}
-use Rattle.symplectic.specs.Actions.{maxQubits, qubits, matrix}
-use Rattle.symplectic.specs.Replies.{actionQuestions}
-use Rattle.symplectic.proofs.Arrays.{loaded}
-use Rattle.symplectic.proofs.Questions.{passed-size, passed-count}
-use Rattle.symplectic.proofs.Listings.{listing-passed, listing-early, listing-short, listing-answer}
+use Rattle.symplectic.specs.Sizes.{maxQubits}
+use Rattle.actions.specs.Actions.{qubits, matrix}
+use Rattle.questions.specs.Replies.{actionQuestions}
+use Rattle.actions.proofs.Arrays.{loaded}
+use Rattle.questions.proofs.Questions.{passed-size, passed-count}
+use Rattle.questions.proofs.Listings.{listing-passed, listing-early, listing-short, listing-answer}
 use Rattle.transvection.specs.Greedy.{greedyList}
 use Rattle.transvection.proofs.Replied.{greedy-call}
 use borrow.Author.Needs.{needs}

@@ -10,8 +10,9 @@ use Rattle.blocks.specs.Words.{laid, rowsIn}
 use Rattle.blocks.proofs.Values.{rows-count, unmapped}
 use Rattle.blocks.proofs.Lent.{lent-front}
 use Rattle.blocks.proofs.Overs.{over-front}
-use Rattle.symplectic.specs.Actions.{mostRows, qubits, matrix}
-use Rattle.symplectic.proofs.Arrays.{qubits-le, matrix-length}
+use Rattle.symplectic.specs.Sizes.{mostRows}
+use Rattle.actions.specs.Actions.{qubits, matrix}
+use Rattle.actions.proofs.Arrays.{qubits-le, matrix-length}
 use Rattle.symplectic.proofs.Work.{room-in, part-words}
 use Rattle.transvection.specs.Greedy.{recorded, greedyList}
 use Rattle.transvection.proofs.Kept.{back-length}

@@ -8,8 +8,9 @@ use lib.ListN.{length, take, drop}
 use Rattle.blocks.specs.Words.{rowsIn}
 use Rattle.blocks.proofs.Values.{unmapped}
 use Rattle.blocks.proofs.Overs.{over-next, over-end}
-use Rattle.symplectic.specs.Actions.{mostRows, qubits, matrix}
-use Rattle.symplectic.proofs.Arrays.{qubits-le, matrix-get, matrix-length}
+use Rattle.symplectic.specs.Sizes.{mostRows}
+use Rattle.actions.specs.Actions.{qubits, matrix}
+use Rattle.actions.proofs.Arrays.{qubits-le, matrix-get, matrix-length}
 use borrow.Author.Needs.{needs}
 use Rattle.transvection.proofs.load.Statement.{statement}
 use Rattle.transvection.proofs.load.Tie as tie

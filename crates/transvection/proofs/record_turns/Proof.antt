@@ -9,7 +9,7 @@ use Rattle.binar.specs.Rows.{val}
 use Rattle.blocks.specs.Words.{rowsIn}
 use Rattle.blocks.proofs.Values.{set-next}
 use Rattle.symplectic.specs.Turns.{followed}
-use Rattle.symplectic.proofs.Arrays.{capped-is}
+use Rattle.symplectic.proofs.Sizes.{capped-is}
 use Rattle.symplectic.proofs.Products.{followed-length}
 use Rattle.transvection.specs.Greedy.{recorded}
 use Rattle.transvection.specs.inner.Searches.{chosen}

@@ -6,13 +6,13 @@ use Prim.Native.Nat.{ℕ, _+_, _≤_}
 use native.Mathlib.Omega.{arith}
 use lib.ListN.{length}
 use Rattle.blocks.specs.Words.{rowsOfWords}
-use Rattle.symplectic.specs.declared.Question.{Question}
-use Rattle.symplectic.specs.declared.Question.the-variants.{Passed, TooManyQubits, WrongRowCount, RowTooWide, NotSymplectic}
-use Rattle.symplectic.specs.Actions.{maxQubits}
-use Rattle.symplectic.specs.Answers.{numberOf}
-use Rattle.symplectic.specs.Replies.{Reply, actionQuestions}
-use Rattle.symplectic.proofs.Arrays.{loaded}
-use Rattle.symplectic.proofs.Questions.{passed-size, passed-count, list-passed, list-short}
+use Rattle.questions.specs.declared.Question.{Question}
+use Rattle.questions.specs.declared.Question.the-variants.{Passed, TooManyQubits, WrongRowCount, RowTooWide, NotSymplectic}
+use Rattle.symplectic.specs.Sizes.{maxQubits}
+use Rattle.questions.specs.Answers.{numberOf}
+use Rattle.questions.specs.Replies.{Reply, actionQuestions}
+use Rattle.actions.proofs.Arrays.{loaded}
+use Rattle.questions.proofs.Questions.{passed-size, passed-count, list-passed, list-short}
 use Rattle.triangular.specs.Search.{budgeted}
 use Rattle.transvection_exact.specs.declared.Minimal.the-variants as minimal
 use Rattle.transvection_exact.specs.Minimal.{coreSearch, searchedReply}

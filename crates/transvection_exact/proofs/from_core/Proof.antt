@@ -11,9 +11,10 @@ use Rattle.blocks.specs.Words.{laid, rowsIn, over}
 use Rattle.blocks.proofs.Values.{unmapped}
 use Rattle.blocks.proofs.Lent.{lent-front}
 use Rattle.blocks.proofs.Overs.{over-front}
-use Rattle.symplectic.specs.Actions.{mostRows, qubits, matrix}
-use Rattle.symplectic.specs.Replies.{Reply}
-use Rattle.symplectic.proofs.Arrays.{qubits-le, matrix-length}
+use Rattle.symplectic.specs.Sizes.{mostRows}
+use Rattle.actions.specs.Actions.{qubits, matrix}
+use Rattle.questions.specs.Replies.{Reply}
+use Rattle.actions.proofs.Arrays.{qubits-le, matrix-length}
 use Rattle.symplectic.proofs.Work.{room-in, part-words}
 use Rattle.reduction.proofs.Core.{core-within}
 use Rattle.triangular.specs.declared.Ending.the-variants.{Found}

@@ -8,8 +8,9 @@ use Rattle.blocks.specs.Words.{rowsIn}
 use Rattle.blocks.proofs.Lent.{lent-front}
 use Rattle.blocks.proofs.Overs.{over-front}
 use Rattle.blocks.proofs.Values.{unmapped}
-use Rattle.symplectic.specs.Actions.{mostRows, qubits, matrix}
-use Rattle.symplectic.proofs.Arrays.{qubits-le, matrix-length}
+use Rattle.symplectic.specs.Sizes.{mostRows}
+use Rattle.actions.specs.Actions.{qubits, matrix}
+use Rattle.actions.proofs.Arrays.{qubits-le, matrix-length}
 use Rattle.symplectic.proofs.Work.{room-in, part-words}
 use Rattle.reduction.specs.Residue.{basis, core}
 use Rattle.reduction.proofs.Core.{core-length, basis-within, core-within}

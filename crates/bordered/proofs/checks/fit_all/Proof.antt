@@ -1,7 +1,7 @@
 -- `fit_all` passes the rows one by one, by `all-next`; one that is too wide fails the test, by `all-fails`.
 -- Assumes nothing.
 use Rattle.symplectic.proofs.Tests.{all-next, all-fails, all-end}
-use Rattle.symplectic.proofs.Questions.{fit-all-is}
+use Rattle.symplectic.proofs.Matches.{fit-all-is}
 use Rattle.symplectic.specs.Turns.{allOf}
 use Rattle.blocks.specs.Blocks.{room, rowsOf}
 use Rattle.blocks.proofs.Values.{rows-get, rows-fit, unmapped}

@@ -5,9 +5,9 @@ use mathlib.Core.List.{List}
 use Prim.Native.Nat.{ℕ, _+_}
 use native.Mathlib.Omega.{arith}
 use lib.ListN.{replicate}
-use Rattle.symplectic.specs.Actions.{mostRows}
+use Rattle.symplectic.specs.Sizes.{mostRows}
 use Rattle.symplectic.proofs.Work.{room-in, part-words, part-rows}
-use Rattle.symplectic.proofs.Arrays.{qubits-le}
+use Rattle.actions.proofs.Arrays.{qubits-le}
 use borrow.Author.Needs.{needs}
 use Rattle.bordered.proofs.checks.is_product.Statement.{statement}
 use Rattle.bordered.proofs.checks.is_product.Tie as tie

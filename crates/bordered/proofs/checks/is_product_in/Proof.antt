@@ -13,11 +13,11 @@ use Rattle.blocks.specs.Matrices.{units}
 use Rattle.blocks.specs.Words.{rowsIn, over}
 use Rattle.blocks.proofs.Values.{rows-get, rows-fit, unmapped}
 use Rattle.symplectic.specs.Turns.{followed, product}
-use Rattle.symplectic.specs.Actions.{qubits, matrix}
+use Rattle.actions.specs.Actions.{qubits, matrix}
 use Rattle.symplectic.specs.Matches.{sameRows}
 use Rattle.symplectic.proofs.Products.{product-nil, product-more, product-length}
 use Rattle.symplectic.proofs.Work.{identity-whole}
-use Rattle.symplectic.proofs.Arrays.{qubits-capped}
+use Rattle.actions.proofs.Arrays.{qubits-capped}
 use borrow.Author.Needs.{needs}
 use Rattle.bordered.proofs.checks.is_product_in.Statement.{statement}
 use Rattle.bordered.proofs.checks.is_product_in.Tie as tie

@@ -8,9 +8,10 @@ use lib.ListN.{length, getD, drop}
 use borrow.Author.Tests.{not-true, not-false}
 use Rattle.blocks.specs.Words.{rowsIn}
 use Rattle.blocks.proofs.Values.{unmapped}
-use Rattle.symplectic.specs.Actions.{mostRows, qubits, matrix}
+use Rattle.symplectic.specs.Sizes.{mostRows}
+use Rattle.actions.specs.Actions.{qubits, matrix}
 use Rattle.symplectic.specs.Matches.{sameRows}
-use Rattle.symplectic.proofs.Arrays.{qubits-le, matrix-length, matrix-get}
+use Rattle.actions.proofs.Arrays.{qubits-le, matrix-length, matrix-get}
 use Rattle.symplectic.proofs.Matches.{same-end, same-onward, same-stopped}
 use borrow.Author.Needs.{needs}
 use Rattle.bordered.proofs.checks.same_rows.Statement.{statement}

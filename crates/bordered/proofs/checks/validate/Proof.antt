@@ -6,7 +6,7 @@ use Rattle.bordered.specs.Checks.{oddRelation, relationSum, unitLower}
 use Rattle.family.specs.Readings.{listOf}
 use Rattle.reduction.specs.Residue.{form}
 use Rattle.reduction.specs.Columns.{rank}
-use Rattle.symplectic.specs.Replies.{fitAll}
+use Rattle.symplectic.specs.Matches.{fitAll}
 use Rattle.blocks.specs.Blocks.{rowsOf}
 use Rattle.blocks.specs.Words.{rowsIn}
 use borrow.Author.Tests.{not-true, not-false}

@@ -1,11 +1,10 @@
 -- `verifies_bordered_decomposition` answers by the first test that fails, or by the last, as `list-tests` has them.
 -- Assumes nothing.
 use Rattle.bordered.proofs.Verdicts.{chain, chain-left, chain-stops, list-tests}
-use Rattle.symplectic.specs.Matches.{sameRows}
-use Rattle.symplectic.proofs.Arrays.{qubits-le}
-use Rattle.symplectic.specs.Replies.{fitAll}
+use Rattle.symplectic.specs.Matches.{sameRows, fitAll}
+use Rattle.actions.proofs.Arrays.{qubits-le}
 use Rattle.symplectic.specs.Turns.{allOf, product}
-use Rattle.symplectic.specs.Actions.{qubits, matrix}
+use Rattle.actions.specs.Actions.{qubits, matrix}
 use Rattle.blocks.specs.Blocks.{rowsOf}
 use borrow.Author.Tests.{not-true, not-false}
 use lib.ListN.{length}

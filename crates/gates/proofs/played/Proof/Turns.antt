@@ -7,10 +7,11 @@ use native.Mathlib.Omega.{arith}
 use lib.ListN.{length}
 use Rattle.blocks.specs.Words.{laid, rowsIn, over}
 use Rattle.blocks.specs.Matrices.{units}
-use Rattle.symplectic.specs.Actions.{padded}
+use Rattle.actions.specs.Actions.{padded}
 use Rattle.symplectic.specs.Turns.{product}
-use Rattle.symplectic.proofs.Arrays.{capped-is, padded-is}
-use Rattle.symplectic.proofs.Answered.{Meets}
+use Rattle.symplectic.proofs.Sizes.{capped-is}
+use Rattle.actions.proofs.Arrays.{padded-is}
+use Rattle.questions.proofs.Answered.{Meets}
 use Rattle.symplectic.proofs.Products.{product-length}
 use Rattle.symplectic.proofs.Work.{identity-whole}
 use Rattle.gates.specs.declared.GateQuestion.{GateQuestion}
