@@ -13,7 +13,7 @@ use Rattle.symplectic.specs.Replies.{fitAll}
 use Rattle.symplectic.specs.Matches.{matches}
 use Rattle.symplectic.specs.Picks.{when}
 use Rattle.reduction.specs.Columns.{rank}
-use Rattle.reduction.specs.Residue.{basis, core, form}
+use Rattle.residue.specs.Residue.{basis, core, form}
 use Rattle.family.specs.Family.{borderedFamily}
 
 -- the vectors of a family

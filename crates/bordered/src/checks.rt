@@ -16,7 +16,7 @@ ghost use Rattle.symplectic.specs.Turns.{allOf, product};
 ghost use Rattle.symplectic.specs.Actions.{qubits, matrix};
 ghost use Rattle.symplectic.specs.Replies.{fitAll};
 ghost use Rattle.symplectic.specs.Matches.{sameRows};
-ghost use Rattle.reduction.specs.Residue.{form};
+ghost use Rattle.residue.specs.Residue.{form};
 ghost use Rattle.family.specs.Readings.{listOf};
 ghost use Rattle.bordered.specs.Checks.{relationSum, unitLower, validate as validateOf, verifiesBordered};
 
