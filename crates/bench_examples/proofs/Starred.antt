@@ -11,7 +11,7 @@ use Rattle.symplectic.specs.Matches.{fitAll, matches}
 use Rattle.questions.specs.Replies.{sizeQuestion, countQuestion, actionQuestions, listQuestions}
 use Rattle.symplectic.specs.Turns.{xBits, zBits, pairing, turn, followed, product, pairAlike, symplectic, identityPlus}
 use Rattle.reduction.specs.Columns.{columns, rowReduceWithTransform, rank}
-use Rattle.reduction.specs.Residue.{residue, reduction, basis, transform, timesTransposed, core, form}
+use Rattle.residue.specs.Residue.{residue, reduction, basis, transform, timesTransposed, core, form}
 use Rattle.shorter.specs.Shorter.{shorterOf, shorterReply, partOf}
 use Rattle.fixed_space.specs.FixedSpace.{kernel, reducedBasis, fixedSpace, fixedReply}
 use Rattle.triangular.specs.Search.{draws, search, budgeted}

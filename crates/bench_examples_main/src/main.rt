@@ -84,7 +84,7 @@ fn print_first(k: usize, rows: &[u64]) {
 // The reduction of the residue of an action on 2 qubits, which has 4 columns.
 fn reduced(name: &[u8], rows: &[u64]) {
     let a = actions::from_words(2, rows);
-    let r = reduction::row_reduce_with_transform(4, reduction::residue(a));
+    let r = reduction::row_reduce_with_transform(4, residue::residue(a));
     io::write_all(STDOUT_FILENO, name);
     io::write_all(STDOUT_FILENO, b": rank ");
     io::print_decimal(STDOUT_FILENO, r.rank as u64);

@@ -3,7 +3,7 @@ use binar::WIDTH;
 ghost use mathlib.Core.Path.{_≡_};
 ghost use lib.ListN.{length};
 ghost use Rattle.blocks.specs.Matrices.{units};
-ghost use Rattle.reduction.specs.Residue.{form};
+ghost use Rattle.residue.specs.Residue.{form};
 ghost use Rattle.triangular.specs.Readings.{coreIn};
 ghost use Rattle.triangular.specs.Search.{search, budgeted};
 ghost use Rattle.bench_search.specs.Looks.{looksAt};

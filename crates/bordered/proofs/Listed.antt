@@ -15,9 +15,9 @@ use Rattle.blocks.specs.Matrices.{times, matmul}
 use Rattle.blocks.proofs.Products.{matmul-is}
 use Rattle.symplectic.specs.Sizes.{maxQubits}
 use Rattle.symplectic.specs.Picks.{when}
-use Rattle.reduction.specs.Residue.{basis, core, residue, form}
-use Rattle.reduction.proofs.Core.{core-length, basis-rank, residue-length}
 use Rattle.reduction.proofs.Transform.{rank-length}
+use Rattle.residue.specs.Residue.{basis, core, residue, form}
+use Rattle.residue.proofs.Core.{core-length, basis-rank, residue-length}
 use Rattle.triangular.specs.Readings.{coreIn}
 use Rattle.triangular.proofs.Cores.{core-in}
 use Rattle.family.specs.declared.Family.{Family}

@@ -14,7 +14,7 @@ use Rattle.binar.proofs.Sums.{sum-zero, sum-assoc, sum-comm}
 use Rattle.blocks.specs.Blocks.{rowsOf}
 use Rattle.blocks.specs.Matrices.{times}
 use Rattle.symplectic.proofs.FirstPicks.{drop-open}
-use Rattle.reduction.specs.Residue.{form}
+use Rattle.residue.specs.Residue.{form}
 use Rattle.triangular.proofs.Cores.{form-dot}
 use Rattle.family.specs.declared.Family.{Family}
 use Rattle.family.specs.Readings.{marked, listOf}

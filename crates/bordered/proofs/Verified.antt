@@ -17,8 +17,8 @@ use Rattle.symplectic.proofs.Lists.{all-true}
 use Rattle.symplectic.proofs.Products.{product-length}
 use Rattle.symplectic.proofs.Matches.{matches-known}
 use Rattle.symplectic.specs.Picks.{when}
-use Rattle.reduction.specs.Residue.{basis, core, form}
-use Rattle.reduction.proofs.Core.{basis-within}
+use Rattle.residue.specs.Residue.{basis, core, form}
+use Rattle.residue.proofs.Core.{basis-within}
 use Rattle.bordered.specs.Checks.{vectors, validate, verifiesBordered, checkedList, coreFamily, borderedList}
 
 -- what `verifies_bordered_decomposition` has seen of a list

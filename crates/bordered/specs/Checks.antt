@@ -12,7 +12,7 @@ use Rattle.symplectic.specs.Turns.{allOf}
 use Rattle.symplectic.specs.Matches.{fitAll, matches}
 use Rattle.symplectic.specs.Picks.{when}
 use Rattle.reduction.specs.Columns.{rank}
-use Rattle.reduction.specs.Residue.{basis, core, form}
+use Rattle.residue.specs.Residue.{basis, core, form}
 use Rattle.family.specs.Family.{borderedFamily}
 
 -- the vectors of a family

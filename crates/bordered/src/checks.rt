@@ -15,7 +15,7 @@ ghost use Rattle.blocks.specs.Words.{rowsIn};
 ghost use Rattle.symplectic.specs.Turns.{allOf, product};
 ghost use Rattle.actions.specs.Actions.{qubits, matrix};
 ghost use Rattle.symplectic.specs.Matches.{fitAll, sameRows};
-ghost use Rattle.reduction.specs.Residue.{form};
+ghost use Rattle.residue.specs.Residue.{form};
 ghost use Rattle.family.specs.Readings.{listOf};
 ghost use Rattle.bordered.specs.Checks.{relationSum, unitLower, validate as validateOf, verifiesBordered};
 

@@ -14,7 +14,7 @@ use Rattle.binar.specs.Rows.{val}
 use Rattle.blocks.specs.Matrices.{times, matmul}
 use Rattle.blocks.proofs.Products.{times-sum, matmul-length}
 use Rattle.symplectic.specs.Picks.{mapSome}
-use Rattle.reduction.specs.Residue.{form}
+use Rattle.residue.specs.Residue.{form}
 use Rattle.triangular.proofs.Cores.{core-row, form-dot}
 use Rattle.family.specs.declared.Picked.{Picked}
 use Rattle.family.specs.declared.Picked.the-variants.{Vector, Nothing}

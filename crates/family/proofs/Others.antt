@@ -13,7 +13,7 @@ use Rattle.blocks.proofs.Products.{times-sum}
 use Rattle.blocks.proofs.Values.{without-before, without-behind, without-length, map-get}
 use Rattle.linear.proofs.Instances.{𝕎}
 use Rattle.linear.proofs.Maps.{map-at}
-use Rattle.reduction.specs.Residue.{form}
+use Rattle.residue.specs.Residue.{form}
 use Rattle.triangular.proofs.Cores.{row-times}
 use Rattle.family.specs.Family.{clearedOfPair}
 use Rattle.family.specs.inner.Parts.{othersOf, pairRest}

@@ -13,7 +13,7 @@ use Rattle.binar.specs.Bits.{select, _⊕_, dot}
 use Rattle.blocks.specs.Matrices.{times}
 use Rattle.symplectic.specs.Picks.{mapSome, pick}
 use Rattle.symplectic.proofs.FirstPicks.{firstOne-end, firstUneven-end, pick-of-uneven}
-use Rattle.reduction.specs.Residue.{form}
+use Rattle.residue.specs.Residue.{form}
 use Rattle.triangular.specs.Spaces.{dropOrKeep, complement}
 use Rattle.triangular.proofs.Complements.{complement-nil, complement-cons, complement-none}
 use Rattle.triangular.proofs.Cores.{form-row}

@@ -14,7 +14,7 @@ use Rattle.blocks.specs.Matrices.{matmul}
 use Rattle.blocks.specs.inner.Lists.{without}
 use Rattle.blocks.proofs.Values.{without-zero, without-suc}
 use Rattle.symplectic.specs.Picks.{orIf, mapSome}
-use Rattle.reduction.specs.Residue.{form}
+use Rattle.residue.specs.Residue.{form}
 use Rattle.family.specs.Family.{keptBefore, splitAt, clearedOfPair, extended, withPartner, fromFirst, symplecticSimplex}
 use Rattle.family.specs.inner.Parts.{othersOf, pairRest, behind}
 use Rattle.family.proofs.Members.{member-form}

@@ -15,7 +15,7 @@ ghost use Rattle.binar.specs.Rows.{width, val};
 ghost use Rattle.blocks.specs.Matrices.{matmul, units};
 ghost use Rattle.blocks.specs.Words.{rowsIn, over};
 ghost use Rattle.symplectic.specs.Picks.{mapSome, firstOne, unevenWith, firstUneven, pick as pickOf};
-ghost use Rattle.reduction.specs.Residue.{form};
+ghost use Rattle.residue.specs.Residue.{form};
 ghost use Rattle.triangular.specs.Spaces.{complement};
 ghost use Rattle.triangular.specs.Readings.{coreIn};
 ghost use Rattle.family.specs.Family.{symplecticSimplex, borderedFamily};

@@ -23,8 +23,8 @@ use Rattle.reduction.specs.inner.Plain.{reduced}
 use Rattle.reduction.proofs.Reduced.{reduced-rref, basis-in, reduced-out, indep-length}
 use Rattle.reduction.proofs.Transform.{basis-reduced}
 use Rattle.reduction.proofs.Pivots.{rref-rows, reduced-only}
-use Rattle.reduction.proofs.Parts.{plus-length}
-use Rattle.reduction.proofs.Core.{plus-lt}
+use Rattle.residue.proofs.Parts.{plus-length}
+use Rattle.residue.proofs.Core.{plus-lt}
 use Rattle.fixed_space.specs.FixedSpace.{kernel, reducedBasis, fixedSpace}
 use Rattle.fixed_space.specs.Promises.{Fixed, Spanning}
 use Rattle.fixed_space.proofs.Kernels.{kernel-lt, kernel-length, kernel-indep, kernel-zero, kernel-whole}

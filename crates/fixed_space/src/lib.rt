@@ -36,7 +36,7 @@ fn fixed_space(a: Action) -> Block
 {
     let n = actions::qubits_of(a);
     let m = n + n;
-    reduced_basis(m, kernel(m, reduction::identity_plus(a)))
+    reduced_basis(m, kernel(m, residue::identity_plus(a)))
 }
 
 // The reduced basis, with ascending pivots, of all vectors that the lent action leaves in place.

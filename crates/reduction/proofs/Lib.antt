@@ -4,8 +4,6 @@ pub mod Unique
 pub mod Reduced
 pub mod Transform
 pub mod Pivots
-pub mod Forms
-pub mod Core
 pub mod Flat
 pub mod TwoLists
 pub mod Swept
@@ -13,3 +11,4 @@ pub mod Loops
 pub mod Words
 pub mod Cut
 pub mod Parts
+pub mod InPlace

@@ -1,4 +1,3 @@
 pub mod Columns
 pub mod Pivots
-pub mod Residue
 pub mod inner

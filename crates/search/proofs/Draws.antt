@@ -11,7 +11,7 @@ use lib.Seq.{getD-set-other, take-set-le, length-take-le}
 use Rattle.binar.specs.Bits.{dot}
 use Rattle.binar.specs.Rows.{width, lowest}
 use Rattle.blocks.specs.Matrices.{times}
-use Rattle.reduction.specs.Residue.{form}
+use Rattle.residue.specs.Residue.{form}
 use Rattle.triangular.specs.declared.Ending.{Ending}
 use Rattle.triangular.specs.Spaces.{complement}
 use Rattle.triangular.specs.Search.{failed, afterRest, search, budgeted}

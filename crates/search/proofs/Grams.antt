@@ -13,7 +13,7 @@ use Rattle.blocks.proofs.Products.{dots-sum, dot-times, bit-dots, times-unit, t
 use Rattle.blocks.proofs.Units.{units-length, units-at, dots-units}
 use Rattle.blocks.proofs.Values.{map-get}
 use Rattle.linear.proofs.Rows.{map-times}
-use Rattle.reduction.specs.Residue.{form}
+use Rattle.residue.specs.Residue.{form}
 use Rattle.search.specs.inner.Levels.{gramOf}
 use Rattle.triangular.proofs.Cores.{row-times, form-dot}
 

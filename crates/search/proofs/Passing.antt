@@ -26,7 +26,7 @@ use Rattle.linear.specs.Maps.{Additive}
 use Rattle.linear.proofs.Instances.{𝔹, 𝕎}
 use Rattle.linear.proofs.Maps.{map-at, map-o}
 use Rattle.linear.proofs.Rows.{times-in}
-use Rattle.reduction.specs.Residue.{form}
+use Rattle.residue.specs.Residue.{form}
 use Rattle.triangular.specs.Spaces.{complement}
 use Rattle.search.specs.inner.Levels.{keptOr, passedAt, gramOf, shrunk}
 use Rattle.triangular.proofs.Complements.{complement-at, complement-length}

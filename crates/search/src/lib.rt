@@ -16,7 +16,7 @@ ghost use Rattle.binar.specs.Bits.{select, _⊕_, dot};
 ghost use Rattle.binar.specs.Rows.{val, width};
 ghost use Rattle.blocks.specs.Matrices.{times, units};
 ghost use Rattle.blocks.specs.Words.{rowsIn, over};
-ghost use Rattle.reduction.specs.Residue.{form};
+ghost use Rattle.residue.specs.Residue.{form};
 ghost use Rattle.triangular.specs.Spaces.{complement, isAlternating};
 ghost use Rattle.triangular.specs.Search.{failed, afterRest, search, budgeted};
 ghost use Rattle.triangular.specs.Readings.{coreIn, verdictOf, basisFound};

@@ -13,9 +13,9 @@ use Rattle.blocks.proofs.All.{All·any, All·to-map}
 use Rattle.blocks.proofs.Products.{times-lt}
 use Rattle.blocks.proofs.Units.{units-length}
 use Rattle.symplectic.specs.Turns.{product, symplectic}
-use Rattle.reduction.specs.Residue.{basis, core, form}
-use Rattle.reduction.proofs.Core.{basis-lt, basis-within}
-use Rattle.reduction.proofs.Forms.{formOf}
+use Rattle.residue.specs.Residue.{basis, core, form}
+use Rattle.residue.proofs.Core.{basis-lt, basis-within}
+use Rattle.residue.proofs.Forms.{formOf}
 use Rattle.triangular.specs.Search.{Outcome, found, failed, search}
 use Rattle.triangular.proofs.Complete.{Right, search-right}
 use Rattle.bordered.proofs.Verified.{Verified, verified-room}

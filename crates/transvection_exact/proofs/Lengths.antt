@@ -18,8 +18,8 @@ use Rattle.symplectic.proofs.Transvections.{act}
 use Rattle.symplectic.proofs.Products.{run-is-act}
 use Rattle.symplectic.proofs.Layers.{added, residueMap, adds-of-product, product-of-adds}
 use Rattle.symplectic.proofs.Wall.{Residue, φ, core as wallForm, at-least, good-of-shortest, product-of-good}
-use Rattle.reduction.specs.Residue.{basis, transform, core, form}
-use Rattle.reduction.proofs.Core.{lift-sum, basis-indep, basis-is, core-is, full}
+use Rattle.residue.specs.Residue.{basis, transform, core, form}
+use Rattle.residue.proofs.Core.{lift-sum, basis-indep, basis-is, core-is, full}
 use Rattle.transvection_exact.specs.NoneShorter.{NoneShorter}
 
 -- a triangular list of r members of the space of dimension r

@@ -12,9 +12,9 @@ use Rattle.blocks.proofs.Products.{matmul-is}
 use Rattle.blocks.proofs.Units.{units-length}
 use Rattle.symplectic.specs.Sizes.{maxQubits}
 use Rattle.questions.specs.Replies.{Reply, refused, listed}
-use Rattle.reduction.specs.Residue.{basis, core, form}
-use Rattle.reduction.proofs.Core.{core-length}
-use Rattle.reduction.proofs.Forms.{formOf}
+use Rattle.residue.specs.Residue.{basis, core, form}
+use Rattle.residue.proofs.Core.{core-length}
+use Rattle.residue.proofs.Forms.{formOf}
 use Rattle.search.specs.declared.Ended.{Ended}
 use Rattle.triangular.specs.declared.Ending.the-variants.{Found, Failed, Spent}
 use Rattle.triangular.specs.Search.{found, failed, search, Verdict, ended, spent, budgeted}

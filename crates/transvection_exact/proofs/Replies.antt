@@ -16,7 +16,7 @@ use Rattle.symplectic.specs.Sizes.{maxQubits}
 use Rattle.symplectic.specs.Turns.{product}
 use Rattle.questions.specs.Replies.{Reply, refused, unlessRefused, actionQuestions, listQuestions}
 use Rattle.questions.proofs.Questions.{question-2, list-small, passed-size, passed-count, passed-rows, passed-symplectic, list-refused, list-known, reply-refused}
-use Rattle.reduction.specs.Residue.{basis}
+use Rattle.residue.specs.Residue.{basis}
 use Rattle.triangular.specs.Search.{Outcome, found, failed, looksOf, endedIf, budgeted}
 use Rattle.triangular.proofs.Budgets.{budgeted-is}
 use Rattle.bordered.specs.Checks.{borderedList}

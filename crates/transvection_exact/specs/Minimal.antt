@@ -7,7 +7,7 @@ use lib.ListN.{length}
 use Rattle.blocks.specs.Matrices.{times, units}
 use Rattle.blocks.specs.Words.{rowsOfWords}
 use Rattle.questions.specs.Replies.{Reply, refused, listed, unlessRefused, listQuestions}
-use Rattle.reduction.specs.Residue.{basis, core, form}
+use Rattle.residue.specs.Residue.{basis, core, form}
 use Rattle.triangular.specs.Search.{Outcome, found, failed, search, Verdict, ended, spent, budgeted}
 use Rattle.bordered.specs.Checks.{borderedList}
 

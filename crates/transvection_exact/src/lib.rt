@@ -14,7 +14,7 @@ ghost use Rattle.blocks.specs.Matrices.{matmul};
 ghost use Rattle.blocks.specs.Words.{rowsIn};
 ghost use Rattle.actions.specs.Actions.{qubits, matrix};
 ghost use Rattle.questions.specs.Replies.{listed, Replays};
-ghost use Rattle.reduction.specs.Residue.{basis as basisOf, core as coreOf};
+ghost use Rattle.residue.specs.Residue.{basis as basisOf, core as coreOf};
 ghost use Rattle.triangular.specs.Search.{budgeted};
 ghost use Rattle.transvection_exact.specs.Minimal.{coreSearch, searchedReply, minimalReply};
 ghost use Rattle.transvection_exact.specs.Answers.{figuresOf, Shortest, Exact};
@@ -143,7 +143,7 @@ fn searched(a: Action, budget: u64, out: &mut [u64]) -> Minimal
 {
     let mut basis = [0u64; MOST_ROWS];
     let mut core = [0u64; MOST_ROWS];
-    let r = reduction::residue_core(a, &mut basis, &mut core);
+    let r = residue::residue_core(a, &mut basis, &mut core);
     let b = blocks::start(&basis, r);
     let c = blocks::start(&core, r);
     from_core(a, &basis[..b], &core[..c], budget, out)

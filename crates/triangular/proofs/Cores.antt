@@ -10,8 +10,8 @@ use Rattle.binar.specs.Rows.{width}
 use Rattle.blocks.specs.Words.{rowsIn}
 use Rattle.blocks.specs.Matrices.{times, matmul}
 use Rattle.blocks.proofs.Products.{times-zero, matmul-is}
-use Rattle.reduction.specs.Residue.{form}
-use Rattle.reduction.proofs.Forms.{form-is}
+use Rattle.residue.specs.Residue.{form}
+use Rattle.residue.proofs.Forms.{form-is}
 use Rattle.triangular.specs.Readings.{coreIn}
 
 pub row-times : (B E : List ℕ) (i : ℕ) → getD (matmul B E) i 0 ≡ times (getD B i 0) E

@@ -12,7 +12,7 @@ use Rattle.blocks.specs.Words.{rowsIn}
 use Rattle.blocks.proofs.Overs.{over-length}
 use Rattle.blocks.proofs.Units.{units-length, matmul-units}
 use Rattle.blocks.proofs.Values.{rows-count, take-counted}
-use Rattle.reduction.specs.Residue.{form}
+use Rattle.residue.specs.Residue.{form}
 use Rattle.triangular.specs.Readings.{coreIn}
 use Rattle.triangular.proofs.Cores.{core-in}
 use Rattle.family.specs.Family.{borderedFamily}

@@ -8,7 +8,7 @@ use lib.Seq.{length-take-le, take-all}
 use Rattle.blocks.specs.Blocks.{room, rowsOf}
 use Rattle.blocks.specs.Words.{rowsIn}
 use Rattle.blocks.proofs.Lent.{lent-within, lent-front}
-use Rattle.reduction.specs.Residue.{form}
+use Rattle.residue.specs.Residue.{form}
 use Rattle.family.specs.Family.{symplecticSimplex}
 use Rattle.family.specs.Readings.{ifMade, listOf, familyOf}
 use Rattle.family.proofs.Peeling.{joined-made}

@@ -11,7 +11,7 @@ use Rattle.blocks.specs.Matrices.{times, matmul}
 use Rattle.blocks.specs.Words.{rowsIn}
 use Rattle.blocks.proofs.Overs.{over-next}
 use Rattle.blocks.proofs.Products.{matmul-length}
-use Rattle.reduction.specs.Residue.{form}
+use Rattle.residue.specs.Residue.{form}
 use Rattle.family.specs.inner.Parts.{othersOf, pairRest}
 use Rattle.family.proofs.Behind.{put-all}
 use Rattle.blocks.proofs.Overs.{over-left}

@@ -5,7 +5,7 @@ use lib.ListN.{take}
 use Rattle.binar.specs.Bits.{_⊕_}
 use Rattle.binar.specs.Rows.{val}
 use Rattle.blocks.specs.Words.{rowsIn}
-use Rattle.reduction.specs.Residue.{form}
+use Rattle.residue.specs.Residue.{form}
 use Rattle.symplectic.specs.Picks.{mapSome, firstOne}
 use Rattle.symplectic.proofs.FirstPicks.{pick-of-one, pick-of-uneven}
 use Rattle.family.specs.declared.Picked.the-variants.{Vector, Nothing}

@@ -9,7 +9,7 @@ use Rattle.binar.specs.Bits.{_⊻_, _⊕_}
 use Rattle.binar.specs.Rows.{val}
 use Rattle.blocks.specs.Matrices.{matmul}
 use Rattle.blocks.specs.Words.{rowsIn}
-use Rattle.reduction.specs.Residue.{form}
+use Rattle.residue.specs.Residue.{form}
 use Rattle.symplectic.specs.Picks.{mapSome, unevenWith}
 use Rattle.symplectic.proofs.FirstPicks.{unevenWith-skip, unevenWith-here, unevenWith-end}
 use Rattle.family.specs.inner.Parts.{besideRow}

@@ -8,7 +8,7 @@ use lib.ListN.{length}
 use Rattle.blocks.proofs.Values.{unmapped}
 use Rattle.actions.specs.Actions.{qubits, matrix}
 use Rattle.actions.proofs.Arrays.{qubits-le, matrix-length}
-use Rattle.reduction.proofs.Parts.{plus-length}
+use Rattle.residue.proofs.Parts.{plus-length}
 use Rattle.fixed_space.specs.FixedSpace.{kernel, reducedBasis, fixedSpace}
 use borrow.Author.Needs.{needs}
 use Rattle.fixed_space.proofs.fixed_space.Statement.{statement}

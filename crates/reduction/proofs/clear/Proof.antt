@@ -2,9 +2,9 @@
 -- Assumes nothing.
 use mathlib.Core.Path.{_≡_, refl, ap, ap₂, _∙_}
 use mathlib.Core.List.{_++_, zip}
-use Prim.Native.Nat.{_-_, _≤_, _<_}
+use Prim.Native.Nat.{ℕ, _-_, _≤_, _<_}
 use lib.ListN.{length, take, drop}
-use Rattle.binar.specs.Bits.{bit, _⊕_}
+use Rattle.binar.specs.Bits.{select, bit, _⊕_}
 use Rattle.binar.specs.Rows.{val}
 use Rattle.blocks.specs.Words.{rowsIn}
 use Rattle.reduction.specs.inner.Sweeps.{cleared}
@@ -42,11 +42,8 @@ row-requires c κs = search needs
 bit-requires : tie.Need-bit-requires Inv-loop μ-loop
 bit-requires c κs = search needs
 
-picked-requires : tie.Need-picked-requires Inv-loop μ-loop
-picked-requires c κs = search needs
-
-sum-requires : tie.Need-sum-requires Inv-loop μ-loop
-sum-requires c κs = search needs
+added-requires : tie.Need-added-requires Inv-loop μ-loop
+added-requires c κs = search needs
 
 put-requires : tie.Need-put-requires Inv-loop μ-loop
 put-requires c κs = search needs
@@ -54,11 +51,8 @@ put-requires c κs = search needs
 row-requires-2 : tie.Need-row-requires-2 Inv-loop μ-loop
 row-requires-2 c κs = search needs
 
-picked-requires-2 : tie.Need-picked-requires-2 Inv-loop μ-loop
-picked-requires-2 c κs = search needs
-
-sum-requires-2 : tie.Need-sum-requires-2 Inv-loop μ-loop
-sum-requires-2 c κs = search needs
+added-requires-2 : tie.Need-added-requires-2 Inv-loop μ-loop
+added-requires-2 c κs = search needs
 
 put-requires-2 : tie.Need-put-requires-2 Inv-loop μ-loop
 put-requires-2 c κs = search needs
@@ -71,19 +65,19 @@ loop-less c = search needs
 
 loop-again : tie.Need-loop-again Inv-loop μ-loop
 loop-again c =
-    let at = c .before .before .before .before .before .before .before .before .before .before .before .before .before .before .before .before .before .before .loop in
-    let start = c .before .before .before .before .before .before .before .before .before .before .before .before .before .before .before .before .before .before .before .before .before .before .before .before .before .before in
+    let at = c .before .before .before .before .before .before .before .before .before .before .before .before .before .before .before .before .loop in
+    let start = c .before .before .before .before .before .before .before .before .before .before .before .before .before .before .before .before .before .before .before .before .before .before .before .before in
     let s = start .args in
     let sizeR = lent-same (at .a) (s .a .now) (at .inv .1) in
     let sizeT = lent-same (at .t) (s .t .now) (at .inv .2) in
-    let has = c .before .before .before .before .before .before .before .before .before .before .before .before .before .before .bit in
-    let x = c .before .before .before .before .before .before .before .before .before .before .before .before .before .before .before .row .ensures in
-    let y = c .before .before .before .before .before .row2 .ensures in
-    let put = c .before .before .before .before .before .before .before .before .before .before .put in
+    let has = c .before .before .before .before .before .before .before .before .before .before .before .before .bit in
+    let x = c .before .before .before .before .before .before .before .before .before .before .before .before .before .row .ensures in
+    let y = c .before .before .before .before .row2 .ensures in
+    let put = c .before .before .before .before .before .before .before .before .before .put in
     let put2 = c .before .before .put2 in
-    let test = c .before .before .before .before .before .before .before .before .before .before .before .before .before .before .before .before .before .loop-test .taken in
-    let least = c .before .before .before .before .before .before .before .before .before .before .before .before .before .before .before .before .before .before .before .lesser .ensures in
-    let count = c .before .before .before .before .before .before .before .before .before .before .before .before .before .before .before .before .before .before .before .before .before .before .rows-in .ensures in
+    let test = c .before .before .before .before .before .before .before .before .before .before .before .before .before .before .before .loop-test .taken in
+    let least = c .before .before .before .before .before .before .before .before .before .before .before .before .before .before .before .before .before .lesser .ensures in
+    let count = c .before .before .before .before .before .before .before .before .before .before .before .before .before .before .before .before .before .before .before .before .rows-in .ensures in
     let h : at .i < length (rowsIn (s .a .now)) = omega (arith, count, least, test) in (
       omega (arith, test),
       put .kept .0 ∙ at .inv .1,
@@ -91,8 +85,8 @@ loop-again c =
       ap₂ zip (put .ensures) (put2 .ensures)
           ∙ cleared-next (s .c) (val (s .v)) (val (s .w)) (at .i) (rowsIn (s .a .now)) (rowsIn (s .t .now)) (start .pre) (rowsIn (at .a)) (rowsIn (at .t)) sizeR sizeT h (at .inv .3)
           (has .result) _ _ (has .ensures ∙ ap (bit (s .c)) x)
-          (c .before .before .before .before .before .before .before .before .before .before .before .sum .ensures ∙ ap₂ _⊕_ x (c .before .before .before .before .before .before .before .before .before .before .before .before .picked .ensures))
-          (c .before .before .before .sum2 .ensures ∙ ap₂ _⊕_ y (c .before .before .before .before .picked2 .ensures)),
+          (c .before .before .before .before .before .before .before .before .before .before .added .ensures ∙ ap (λ (z : ℕ). z ⊕ select 0 (has .result) (val (s .v))) x)
+          (c .before .before .before .added2 .ensures ∙ ap (λ (z : ℕ). z ⊕ select 0 (has .result) (val (s .w))) y),
     )
 
 same-length : tie.Need-same-length Inv-loop μ-loop
@@ -122,12 +116,10 @@ clear-spec =
     loop-holds
     row-requires
     bit-requires
-    picked-requires
-    sum-requires
+    added-requires
     put-requires
     row-requires-2
-    picked-requires-2
-    sum-requires-2
+    added-requires-2
     put-requires-2
     add-i
     loop-less

@@ -1,14 +1,13 @@
--- `put_block` puts the rows of the block one by one, by `over-next` and `put-all`.
+-- `put_block` puts the rows of the block one by one, by `over-next` and `over-whole`.
 -- Assumes nothing.
-use mathlib.Core.Path.{_≡_, refl, sym, _∙_}
+use mathlib.Core.Path.{_≡_, refl, _∙_}
 use mathlib.Core.List.{_++_}
 use Prim.Native.Nat.{_-_, _≤_, _<_}
 use lib.ListN.{length, take, drop}
 use Rattle.blocks.specs.Blocks.{room, rowsOf}
 use Rattle.blocks.specs.Words.{rowsIn}
-use Rattle.blocks.proofs.Overs.{over-next}
+use Rattle.blocks.proofs.Overs.{over-next, over-whole}
 use Rattle.blocks.proofs.Values.{rows-fit, rows-get, unmapped}
-use Rattle.reduction.proofs.Loops.{put-all}
 use native.Mathlib.Omega.{arith}
 use borrow.Author.Needs.{needs}
 use Rattle.reduction.proofs.put_block.Statement.{statement}
@@ -70,7 +69,7 @@ returns c =
     let at = c .before .loop in
     let start = c .before .before .before .before .before in
     let s = start .args in
-    at .inv .4 ∙ put-all (rowsOf (s .t1)) (rowsIn (s .w .now)) (at .i) (sym (start .pre)) (omega (arith, at .inv .1, start .pre))
+    at .inv .4 ∙ over-whole 0 (rowsOf (s .t1)) (rowsIn (s .w .now)) (at .i) (omega (arith, at .inv .1, start .pre)) (omega (arith, at .inv .1, start .pre))
 
 pub put-block-spec : {M : Type 1} → statement M
 put-block-spec =

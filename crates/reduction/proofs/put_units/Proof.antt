@@ -8,10 +8,9 @@ use Rattle.binar.specs.Rows.{rowBound}
 use Rattle.binar.proofs.Widths.{unit-kept}
 use Rattle.blocks.specs.Matrices.{units}
 use Rattle.blocks.specs.Words.{rowsIn}
-use Rattle.blocks.proofs.Overs.{over-next}
+use Rattle.blocks.proofs.Overs.{over-next, over-whole}
 use Rattle.blocks.proofs.Units.{units-length, units-at}
 use Rattle.blocks.proofs.Values.{map-get}
-use Rattle.reduction.proofs.Loops.{put-all}
 use native.Mathlib.Omega.{arith}
 use borrow.Author.Needs.{needs}
 use Rattle.reduction.proofs.put_units.Statement.{statement}
@@ -71,7 +70,7 @@ returns : tie.Need-returns Inv-loop μ-loop
 returns c =
     let at = c .before .loop in
     let k = c .before .before .rows-in .result in
-    at .inv .3 ∙ put-all (kept k) (rowsIn (c .before .before .before .before .before .args .t .now)) (at .i) (kept-length k ∙ at .inv .1) (omega (arith, at .inv .1)) ∙ ap kept (at .inv .1)
+    at .inv .3 ∙ over-whole 0 (kept k) (rowsIn (c .before .before .before .before .before .args .t .now)) (at .i) (omega (arith, kept-length k)) (omega (arith, at .inv .1)) ∙ ap kept (at .inv .1)
 
 pub put-units-spec : {M : Type 1} → statement M
 put-units-spec =

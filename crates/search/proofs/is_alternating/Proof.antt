@@ -11,7 +11,7 @@ use borrow.Author.Tests.{not-true, not-false}
 use Rattle.binar.specs.Rows.{val, width}
 use Rattle.blocks.specs.Words.{rowsIn}
 use Rattle.linear.proofs.Maps.{same-of-beq}
-use Rattle.reduction.specs.Residue.{form}
+use Rattle.residue.specs.Residue.{form}
 use Rattle.triangular.specs.Spaces.{isAlternating, symmetricWith}
 use Rattle.search.specs.inner.Levels.{gramOf}
 use Rattle.triangular.proofs.Alternates.{beq-differ, symmetric-start, symmetric-next, alternating-start, alternating-next, fails-diagonal, fails-pair}

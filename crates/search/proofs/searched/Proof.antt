@@ -11,7 +11,7 @@ use Rattle.blocks.specs.Matrices.{units}
 use Rattle.blocks.specs.Words.{rowsIn, over}
 use Rattle.blocks.proofs.Lent.{lent-same}
 use Rattle.blocks.proofs.Overs.{over-nil}
-use Rattle.reduction.specs.Residue.{form}
+use Rattle.residue.specs.Residue.{form}
 use Rattle.triangular.specs.declared.Ending.{Ending}
 use Rattle.triangular.specs.declared.Ending.the-variants.{Found, Failed, Spent}
 use Rattle.triangular.specs.Search.{Verdict, search as searchOf, budgeted}

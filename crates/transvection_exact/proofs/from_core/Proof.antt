@@ -16,7 +16,7 @@ use Rattle.actions.specs.Actions.{qubits, matrix}
 use Rattle.questions.specs.Replies.{Reply}
 use Rattle.actions.proofs.Arrays.{qubits-le, matrix-length}
 use Rattle.symplectic.proofs.Work.{room-in, part-words}
-use Rattle.reduction.proofs.Core.{core-within}
+use Rattle.residue.proofs.Core.{core-within}
 use Rattle.triangular.specs.declared.Ending.the-variants.{Found}
 use Rattle.bordered.proofs.Listed.{bordered-of}
 use Rattle.triangular.specs.Readings.{basisFound}

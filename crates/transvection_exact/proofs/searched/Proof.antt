@@ -12,8 +12,8 @@ use Rattle.symplectic.specs.Sizes.{mostRows}
 use Rattle.actions.specs.Actions.{qubits, matrix}
 use Rattle.actions.proofs.Arrays.{qubits-le, matrix-length}
 use Rattle.symplectic.proofs.Work.{room-in, part-words}
-use Rattle.reduction.specs.Residue.{basis, core}
-use Rattle.reduction.proofs.Core.{core-length, basis-within, core-within}
+use Rattle.residue.specs.Residue.{basis, core}
+use Rattle.residue.proofs.Core.{core-length, basis-within, core-within}
 use borrow.Author.Needs.{needs}
 use Rattle.transvection_exact.proofs.searched.Statement.{statement}
 use Rattle.transvection_exact.proofs.searched.Tie as tie

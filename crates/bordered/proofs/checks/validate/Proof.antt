@@ -4,8 +4,8 @@ use Rattle.bordered.proofs.Verdicts.{chain, chain-left, chain-stops, fa
 use Rattle.bordered.proofs.Relation.{family-odd}
 use Rattle.bordered.specs.Checks.{oddRelation, relationSum, unitLower}
 use Rattle.family.specs.Readings.{listOf}
-use Rattle.reduction.specs.Residue.{form}
 use Rattle.reduction.specs.Columns.{rank}
+use Rattle.residue.specs.Residue.{form}
 use Rattle.symplectic.specs.Matches.{fitAll}
 use Rattle.blocks.specs.Blocks.{rowsOf}
 use Rattle.blocks.specs.Words.{rowsIn}

@@ -16,7 +16,7 @@ use Rattle.blocks.specs.Words.{rowsIn}
 use Rattle.blocks.proofs.Overs.{over-length}
 use Rattle.blocks.proofs.Products.{matmul-length}
 use Rattle.blocks.proofs.Values.{set-next}
-use Rattle.reduction.specs.Residue.{form}
+use Rattle.residue.specs.Residue.{form}
 use Rattle.symplectic.specs.Picks.{mapSome, pick}
 use Rattle.triangular.specs.Spaces.{complement}
 use Rattle.family.specs.declared.Picked.the-variants.{Nothing}

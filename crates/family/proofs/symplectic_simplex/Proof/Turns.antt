@@ -13,7 +13,7 @@ use Rattle.binar.specs.Rows.{val}
 use Rattle.blocks.specs.Matrices.{matmul}
 use Rattle.blocks.specs.Words.{rowsIn}
 use Rattle.blocks.proofs.Values.{set-next}
-use Rattle.reduction.specs.Residue.{form}
+use Rattle.residue.specs.Residue.{form}
 use Rattle.symplectic.specs.Picks.{mapSome}
 use Rattle.family.specs.Family.{symplecticSimplex}
 use Rattle.family.specs.inner.Parts.{behind}

@@ -9,7 +9,7 @@ use borrow.Fn.PlainCycle.{Measures, is, falls, and}
 use Rattle.binar.specs.Rows.{val}
 use Rattle.blocks.specs.Matrices.{times}
 use Rattle.blocks.specs.Words.{rowsIn}
-use Rattle.reduction.specs.Residue.{form}
+use Rattle.residue.specs.Residue.{form}
 use Rattle.triangular.specs.Search.{draws, search as searchOf, budgeted}
 use Rattle.search.specs.inner.Levels.{gramOf}
 use Rattle.search.proofs.try_draw.Reads as try-draw

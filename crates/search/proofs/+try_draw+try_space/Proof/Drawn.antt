@@ -9,7 +9,7 @@ use lib.ListN.{length, take, drop}
 use Rattle.binar.specs.Rows.{val}
 use Rattle.blocks.specs.Words.{rowsIn}
 use Rattle.blocks.proofs.Lent.{lent-same, lent-within, lent-rest, lent-back}
-use Rattle.reduction.specs.Residue.{form}
+use Rattle.residue.specs.Residue.{form}
 use Rattle.triangular.specs.Search.{search as searchOf, budgeted}
 use Rattle.triangular.specs.Readings.{verdictOf}
 use Rattle.search.specs.inner.Levels.{levels, foundIn, gramOf}

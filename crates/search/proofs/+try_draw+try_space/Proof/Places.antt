@@ -13,7 +13,7 @@ use Rattle.binar.specs.Rows.{val, lowest}
 use Rattle.blocks.specs.Matrices.{times}
 use Rattle.blocks.specs.Words.{rowsIn}
 use Rattle.blocks.proofs.Products.{times-zero}
-use Rattle.reduction.specs.Residue.{form}
+use Rattle.residue.specs.Residue.{form}
 use Rattle.triangular.specs.declared.Ending.the-variants.{Found, Failed, Spent}
 use Rattle.triangular.specs.Search.{found, ended}
 use Rattle.search.specs.inner.Levels.{foundIn, gramOf}

@@ -8,7 +8,7 @@ use Rattle.symplectic.proofs.Tests.{and-no, and-yes, onward, stopped}
 use Rattle.symplectic.specs.Turns.{allOf}
 use Rattle.family.specs.Readings.{marked}
 use Rattle.family.proofs.Marked.{marked-length, list-marked}
-use Rattle.reduction.specs.Residue.{form}
+use Rattle.residue.specs.Residue.{form}
 use Rattle.binar.specs.Rows.{val}
 use Rattle.binar.specs.inner.Blank.{blank}
 use Rattle.blocks.specs.Blocks.{room, rowsOf}

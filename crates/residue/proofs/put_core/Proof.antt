@@ -8,12 +8,12 @@ use lib.Seq.{getD-take, length-take-le}
 use Rattle.blocks.specs.Matrices.{dots}
 use Rattle.blocks.specs.Words.{rowsIn}
 use Rattle.blocks.proofs.Overs.{over-next, over-end}
-use Rattle.reduction.specs.Residue.{timesTransposed}
-use Rattle.reduction.proofs.Forms.{transposed-length, transposed-at}
+use Rattle.residue.specs.Residue.{timesTransposed}
+use Rattle.residue.proofs.Forms.{transposed-length, transposed-at}
 use native.Mathlib.Omega.{arith}
 use borrow.Author.Needs.{needs}
-use Rattle.reduction.proofs.put_core.Statement.{statement}
-use Rattle.reduction.proofs.put_core.Tie as tie
+use Rattle.residue.proofs.put_core.Statement.{statement}
+use Rattle.residue.proofs.put_core.Tie as tie
 
 abbrev Inv-loop : tie.InvT-loop
 Inv-loop k rows transform out₀ m i₀ out i =

@@ -4,11 +4,11 @@ use mathlib.Core.Path.{refl, ap, _∙_}
 use Prim.Native.Nat.{ℕ, _+_, _≤_}
 use Rattle.symplectic.specs.Sizes.{mostRows}
 use Rattle.actions.proofs.Arrays.{qubits-le}
 use Rattle.reduction.proofs.Words.{lent-room, lent-count, lent-rows, left-room, left-count, left-rows}
 use native.Mathlib.Omega.{arith}
 use borrow.Author.Needs.{needs}
-use Rattle.reduction.proofs.identity_plus_from.Statement.{statement}
-use Rattle.reduction.proofs.identity_plus_from.Tie as tie
+use Rattle.residue.proofs.identity_plus_from.Statement.{statement}
+use Rattle.residue.proofs.identity_plus_from.Tie as tie
 
 -- the array has room for the rows of an action
 fits : (c : tie.After-qubits-of) → c .qubits-of .result + c .qubits-of .result ≤ mostRows

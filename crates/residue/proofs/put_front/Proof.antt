@@ -9,8 +9,8 @@ use Rattle.blocks.specs.Words.{rowsIn}
 use Rattle.blocks.proofs.Overs.{over-next, over-end}
 use native.Mathlib.Omega.{arith}
 use borrow.Author.Needs.{needs}
-use Rattle.reduction.proofs.put_front.Statement.{statement}
-use Rattle.reduction.proofs.put_front.Tie as tie
+use Rattle.residue.proofs.put_front.Statement.{statement}
+use Rattle.residue.proofs.put_front.Tie as tie
 
 abbrev Inv-loop : tie.InvT-loop
 Inv-loop k rows out₀ m i₀ out i =

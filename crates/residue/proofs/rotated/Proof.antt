@@ -4,10 +4,10 @@ use mathlib.Core.Path.{ap, _∙_}
 use Prim.Native.Nat.{_-_}
 use native.Mathlib.Omega.{arith}
 use lib.ListN.{getD}
-use Rattle.reduction.proofs.Parts.{lower-at, upper-at}
+use Rattle.residue.proofs.Parts.{lower-at, upper-at}
 use borrow.Author.Needs.{needs}
-use Rattle.reduction.proofs.rotated.Statement.{statement}
-use Rattle.reduction.proofs.rotated.Tie as tie
+use Rattle.residue.proofs.rotated.Statement.{statement}
+use Rattle.residue.proofs.rotated.Tie as tie
 
 sub-rest : tie.Need-sub-rest
 sub-rest c = search needs

@@ -11,7 +11,7 @@ use Rattle.blocks.proofs.Products.{times-sum, dots-nil, dots-cons, dot-times}
 use Rattle.blocks.proofs.Values.{map-get}
 use Rattle.linear.specs.Maps.{Form}
 use Rattle.linear.proofs.Instances.{𝕎}
-use Rattle.reduction.specs.Residue.{timesTransposed, form}
+use Rattle.residue.specs.Residue.{timesTransposed, form}
 
 pub form-is : (E : List ℕ) (p q : ℕ) → form E p q ≡ dot (times p E) q
 unfolding form

@@ -10,11 +10,11 @@ use Rattle.binar.proofs.Ones.{unit-is}
 use Rattle.blocks.specs.Matrices.{dots}
 use Rattle.blocks.specs.Words.{rowsIn}
 use Rattle.blocks.proofs.Products.{dots-nil}
-use Rattle.reduction.proofs.Loops.{dots-next}
+use Rattle.residue.proofs.Loops.{dots-next}
 use native.Mathlib.Omega.{arith}
 use borrow.Author.Needs.{needs}
-use Rattle.reduction.proofs.dots.Statement.{statement}
-use Rattle.reduction.proofs.dots.Tie as tie
+use Rattle.residue.proofs.dots.Statement.{statement}
+use Rattle.residue.proofs.dots.Tie as tie
 
 abbrev Inv-loop : tie.InvT-loop
 Inv-loop v w k m s₀ i₀ s i = (i ≤ m) × (m ≡ k) × (val s ≡ dots (take i (rowsIn w)) (val v))
@@ -51,11 +51,8 @@ row-requires c κs = search needs
 dot-requires : tie.Need-dot-requires Inv-loop μ-loop
 dot-requires c κs = search needs
 
-picked-requires : tie.Need-picked-requires Inv-loop μ-loop
-picked-requires c κs = search needs
-
-sum-requires : tie.Need-sum-requires Inv-loop μ-loop
-sum-requires c κs = search needs
+added-requires : tie.Need-added-requires Inv-loop μ-loop
+added-requires c κs = search needs
 
 add-i : tie.Need-add-i Inv-loop μ-loop
 add-i c = search needs
@@ -65,16 +62,16 @@ loop-less c = search needs
 
 loop-again : tie.Need-loop-again Inv-loop μ-loop
 loop-again c =
-    let at = c .before .before .before .before .before .before .loop in
-    let start = c .before .before .before .before .before .before .before .before .before .before .before .before in
+    let at = c .before .before .before .before .before .loop in
+    let start = c .before .before .before .before .before .before .before .before .before .before .before in
     let s = start .args in
     let rows = rowsIn (s .w .now) in
     let h : at .i < length rows = omega (arith, at .inv .1, start .pre .1) in
-    let unit = c .before .before .before .before .unit .ensures ∙ unit-is (at .i) (omega (arith, at .inv .1, start .pre .0)) in
-    let on = c .before .before .dot .ensures ∙ ap (dot (val (s .v))) (c .before .before .before .row .ensures) in (
+    let unit = c .before .before .before .unit .ensures ∙ unit-is (at .i) (omega (arith, at .inv .1, start .pre .0)) in
+    let on = c .before .dot .ensures ∙ ap (dot (val (s .v))) (c .before .before .row .ensures) in (
       search needs,
       at .inv .1,
-      c .sum .ensures ∙ ap₂ _⊕_ (at .inv .2) (c .before .picked .ensures ∙ ap₂ (λ (b : Bool) (u : ℕ). select 0 b u) on unit) ∙ sym (dots-next rows (at .i) (val (s .v)) h),
+      c .added .ensures ∙ ap₂ _⊕_ (at .inv .2) (ap₂ (λ (b : Bool) (u : ℕ). select 0 b u) on unit) ∙ sym (dots-next rows (at .i) (val (s .v)) h),
     )
 
 returns : tie.Need-returns Inv-loop μ-loop
@@ -98,8 +95,7 @@ dots-spec =
     unit-requires
     row-requires
     dot-requires
-    picked-requires
-    sum-requires
+    added-requires
     add-i
     loop-less
     loop-again

@@ -5,8 +5,8 @@ use mathlib.Core.List.{append-nil}
 use Rattle.actions.specs.Actions.{qubits, matrix}
 use Rattle.symplectic.specs.Turns.{identityPlus}
 use borrow.Author.Needs.{needs}
-use Rattle.reduction.proofs.identity_plus.Statement.{statement}
-use Rattle.reduction.proofs.identity_plus.Tie as tie
+use Rattle.residue.proofs.identity_plus.Statement.{statement}
+use Rattle.residue.proofs.identity_plus.Tie as tie
 
 identity-plus-from-requires : tie.Need-identity-plus-from-requires
 identity-plus-from-requires c κs = search needs

@@ -4,11 +4,11 @@ use mathlib.Core.Path.{refl, ap, _∙_}
 use Prim.Native.Nat.{ℕ, _+_, _≤_}
 use Rattle.symplectic.specs.Sizes.{mostRows}
 use Rattle.actions.proofs.Arrays.{qubits-le}
 use Rattle.reduction.proofs.Words.{lent-room, lent-count, lent-rows}
 use native.Mathlib.Omega.{arith}
 use borrow.Author.Needs.{needs}
-use Rattle.reduction.proofs.residue_core.Statement.{statement}
-use Rattle.reduction.proofs.residue_core.Tie as tie
+use Rattle.residue.proofs.residue_core.Statement.{statement}
+use Rattle.residue.proofs.residue_core.Tie as tie
 
 -- the arrays have room for the rows of an action
 fits : (c : tie.After-qubits-of) → c .qubits-of .result + c .qubits-of .result ≤ mostRows
@@ -46,26 +46,21 @@ slice-aggregate-residue-core-in-2 c =
     let n = c .before .before .before .before .qubits-of .result in
     lent-count (n + n) mostRows (c .before .before .start .result) (c .before .before .start .ensures)
 
-slice-aggregate-residue-core-in-3 : tie.Need-slice-aggregate-residue-core-in-3
-slice-aggregate-residue-core-in-3 c = refl
-
 residue-core-in-requires : tie.Need-residue-core-in-requires
 residue-core-in-requires c κs =
-    let n = c .before .before .before .before .before .before .before .qubits-of in
-    let to = c .before .before .before .before .before .start in
-    let room = fits (c .before .before .before .before .before .before .before) in
-    let twice = ap (λ (m : ℕ). m + m) (n .ensures) in
-    let long = lent-rows (n .result + n .result) mostRows (to .result) (to .ensures) room ∙ twice in
-    (long, long, omega (arith, twice, room))
+    let n = c .before .before .before .before .before .before .qubits-of in
+    let to = c .before .before .before .before .start in
+    let long = lent-rows (n .result + n .result) mostRows (to .result) (to .ensures) (fits (c .before .before .before .before .before .before)) ∙ ap (λ (m : ℕ). m + m) (n .ensures) in
+    (long, long)
 
 same-length : tie.Need-same-length
-same-length c = c .before .before .before .before .before .before .before .residue-core-in .kept .1 .1 .1 .1 .0
+same-length c = c .before .before .before .before .before .before .residue-core-in .kept .1 .1 .1 .0
 
 same-length-2 : tie.Need-same-length-2
-same-length-2 c = c .before .before .before .before .before .before .before .residue-core-in .kept .1 .1 .1 .1 .1 .0
+same-length-2 c = c .before .before .before .before .before .before .residue-core-in .kept .1 .1 .1 .1 .0
 
 returns : tie.Need-returns
-returns c = c .before .before .before .before .before .before .before .residue-core-in .ensures
+returns c = c .before .before .before .before .before .before .residue-core-in .ensures
 
 pub residue-core-spec : {M : Type 1} → statement M
 residue-core-spec =
@@ -79,7 +74,6 @@ residue-core-spec =
     slice-aggregate-residue-core-in
     array-borrow-prefix-transform
     slice-aggregate-residue-core-in-2
-    slice-aggregate-residue-core-in-3
     residue-core-in-requires
     same-length
     same-length-2

@@ -7,19 +7,18 @@ use lib.ListN.{length, take, drop}
 use Rattle.binar.specs.Bits.{_⊕_}
 use Rattle.binar.proofs.Ones.{unit-is}
 use Rattle.blocks.specs.Words.{rowsIn}
-use Rattle.blocks.proofs.Overs.{over-next}
+use Rattle.blocks.proofs.Overs.{over-next, over-whole}
 use Rattle.blocks.proofs.Values.{unmapped}
 use Rattle.actions.specs.declared.Action.{Action}
 use Rattle.symplectic.specs.Sizes.{mostRows}
 use Rattle.actions.specs.Actions.{qubits, matrix}
 use Rattle.symplectic.specs.Turns.{identityPlus}
 use Rattle.actions.proofs.Arrays.{qubits-le, matrix-length, matrix-get}
-use Rattle.reduction.proofs.Loops.{put-all}
-use Rattle.reduction.proofs.Parts.{plus-from-length, plus-from-at}
+use Rattle.residue.proofs.Parts.{plus-from-length, plus-from-at}
 use native.Mathlib.Omega.{arith}
 use borrow.Author.Needs.{needs}
-use Rattle.reduction.proofs.put_plus.Statement.{statement}
-use Rattle.reduction.proofs.put_plus.Tie as tie
+use Rattle.residue.proofs.put_plus.Statement.{statement}
+use Rattle.residue.proofs.put_plus.Tie as tie
 
 abbrev from : ℕ → Action → List ℕ
 from k a = let l = identityPlus (qubits a) (matrix a) in drop k l ++ take k l
@@ -96,7 +95,7 @@ returns c =
     let s = start .args in
     let a = s .t1 in
     let long = plus-from-length (qubits a) (matrix a) (size start) (s .k) in
-    at .inv .4 ∙ put-all (from (s .k) a) (rowsIn (s .w .now)) (at .i) (long ∙ sym (start .pre .1)) (omega (arith, at .inv .1, start .pre .1))
+    at .inv .4 ∙ over-whole 0 (from (s .k) a) (rowsIn (s .w .now)) (at .i) (omega (arith, long, at .inv .1)) (omega (arith, at .inv .1, start .pre .1))
 
 pub put-plus-spec : {M : Type 1} → statement M
 put-plus-spec =

@@ -24,13 +24,13 @@ use Rattle.symplectic.specs.inner.Vectors.{swapHalves}
 use Rattle.symplectic.proofs.Lists.{map-eq}
 use Rattle.symplectic.proofs.Pairings.{swap-sum, swap-swap, swap-over, swap-low, swap-high, pairing-swap}
 use Rattle.symplectic.proofs.Layers.{times-images, added, added-sum, added-lt, added-over, identityPlus-is, plus-times}
 use Rattle.reduction.specs.Columns.{rank}
-use Rattle.reduction.specs.Residue.{residue, reduction, basis, transform, core, form}
 use Rattle.reduction.specs.inner.Plain.{reduced}
 use Rattle.reduction.proofs.Echelon.{Rref}
 use Rattle.reduction.proofs.Reduced.{reduced-indep, reduced-lt, reduced-out, reduced-unique}
 use Rattle.reduction.proofs.Transform.{basis-row-is, basis-transform-lt, basis-reduced, above-rref, rank-plain, rank-length}
-use Rattle.reduction.proofs.Forms.{form-transposed, transposed-length}
+use Rattle.residue.specs.Residue.{residue, reduction, basis, transform, core, form}
+use Rattle.residue.proofs.Forms.{form-transposed, transposed-length}
 
 -- ---- of any action
 

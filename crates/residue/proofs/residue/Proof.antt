@@ -6,10 +6,10 @@ use native.Mathlib.Omega.{arith}
 use lib.ListN.{take, drop}
 use Rattle.actions.specs.Actions.{qubits, matrix}
 use Rattle.symplectic.specs.Turns.{identityPlus}
-use Rattle.reduction.proofs.Parts.{residue-from}
+use Rattle.residue.proofs.Parts.{residue-from}
 use borrow.Author.Needs.{needs}
-use Rattle.reduction.proofs.residue.Statement.{statement}
-use Rattle.reduction.proofs.residue.Tie as tie
+use Rattle.residue.proofs.residue.Statement.{statement}
+use Rattle.residue.proofs.residue.Tie as tie
 
 qubits-of-requires : tie.Need-qubits-of-requires
 qubits-of-requires c κs = search needs

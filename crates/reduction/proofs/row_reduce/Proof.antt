@@ -1,0 +1,113 @@
+-- `row_reduce` reduces the front of both, by `fitting-front`, and what came back stands over the rest, by `put-back`.
+-- Assumes nothing.
+use mathlib.Core.Path.{_≡_, sym, ap, _∙_}
+use mathlib.Core.List.{List, map}
+use Prim.Native.Nat.{ℕ, _%_, min}
+use lib.ListN.{length}
+use Rattle.binar.specs.Rows.{rowBound}
+use Rattle.blocks.specs.Blocks.{room}
+use Rattle.blocks.specs.Words.{rowsIn, over}
+use Rattle.blocks.proofs.Lent.{lent-front}
+use Rattle.symplectic.proofs.Work.{part-words, part-rows}
+use Rattle.reduction.specs.Columns.{rows, rowReduceWithTransform, rank}
+use Rattle.reduction.proofs.InPlace.{fitting-front}
+use Rattle.reduction.proofs.Words.{put-back}
+use native.Mathlib.Omega.{arith}
+use borrow.Author.Needs.{needs}
+use Rattle.reduction.proofs.row_reduce.Statement.{statement}
+use Rattle.reduction.proofs.row_reduce.Tie as tie
+
+-- as many rows as both have, and a block has room for
+least : (c : tie.After-lesser2) → let s = c .before .before .before .before .before .before .before .before .args in c .lesser2 .result ≡ min room (min (length (rowsIn (s .a .now))) (length (rowsIn (s .t .now))))
+least c = omega (arith, c .lesser2 .ensures, c .before .lesser .ensures, c .before .before .rows-in2 .ensures, c .before .before .before .before .rows-in .ensures)
+
+rows-in-requires : tie.Need-rows-in-requires
+rows-in-requires c κs = search needs
+
+rows-in-requires-2 : tie.Need-rows-in-requires-2
+rows-in-requires-2 c κs = search needs
+
+lesser-requires : tie.Need-lesser-requires
+lesser-requires c κs = search needs
+
+lesser-requires-2 : tie.Need-lesser-requires-2
+lesser-requires-2 c κs = search needs
+
+start-requires : tie.Need-start-requires
+start-requires c κs = search needs
+
+start-requires-2 : tie.Need-start-requires-2
+start-requires-2 c κs = search needs
+
+slice-relend-prefix-reduce : tie.Need-slice-relend-prefix-reduce
+slice-relend-prefix-reduce c = search needs
+
+slice-aggregate-reduce : tie.Need-slice-aggregate-reduce
+slice-aggregate-reduce c =
+    let to = c .before .before .before .start in
+    part-words (c .before .before .before .before .before .lesser2 .result) (to .result) (c .before .before .before .before .before .before .before .before .before .before .before .before .before .args .a .now) (to .ensures)
+
+slice-relend-prefix-reduce-2 : tie.Need-slice-relend-prefix-reduce-2
+slice-relend-prefix-reduce-2 c = search needs
+
+slice-aggregate-reduce-2 : tie.Need-slice-aggregate-reduce-2
+slice-aggregate-reduce-2 c =
+    let until = c .before .before .start2 in
+    part-words (c .before .before .before .before .before .before .lesser2 .result) (until .result) (c .before .before .before .before .before .before .before .before .before .before .before .before .before .before .args .t .now) (until .ensures)
+
+slice-aggregate-reduce-3 : tie.Need-slice-aggregate-reduce-3
+slice-aggregate-reduce-3 c = search needs
+
+reduce-requires : tie.Need-reduce-requires
+reduce-requires c κs =
+    let s = c .before .before .before .before .before .before .before .before .before .before .before .before .before .before .before .args in
+    let k = c .before .before .before .before .before .before .before .lesser2 .result in
+    let e = least (c .before .before .before .before .before .before .before) in
+    let sizeA = part-rows k (c .before .before .before .before .before .start .result) (s .a .now) (c .before .before .before .before .before .start .ensures) (omega (arith, e)) in
+    let sizeT = part-rows k (c .before .before .before .start2 .result) (s .t .now) (c .before .before .before .start2 .ensures) (omega (arith, e)) in
+    (sizeA ∙ sym sizeT, omega (arith, sizeA, e))
+
+same-length : tie.Need-same-length
+same-length c = search needs
+
+same-length-2 : tie.Need-same-length-2
+same-length-2 c = search needs
+
+returns : tie.Need-returns
+returns c =
+    let s = c .before .before .before .before .before .before .before .before .before .before .before .before .before .before .before .before .before .before .before .before .before .args in
+    let k = c .before .before .before .before .before .before .before .before .before .before .before .before .before .lesser2 .result in
+    let e = least (c .before .before .before .before .before .before .before .before .before .before .before .before .before) in
+    let to = c .before .before .before .before .before .before .before .before .before .before .before .start in
+    let until = c .before .before .before .before .before .before .before .before .before .start2 in
+    let o = c .before .before .before .before .before .reduce in
+    let is = lent-front k (to .result) (s .a .now) (to .ensures) ∙ fitting-front (rowsIn (s .a .now)) (rowsIn (s .t .now)) k e in
+    let all : List ℕ → List (ℕ × ℕ) = λ l. rows (rowReduceWithTransform (s .m) l) in (
+      o .ensures .0 ∙ ap (rank (s .m)) is,
+      (
+        put-back k (to .result) (s .a .now) (to .ensures) (omega (arith, e)) (o .last .1 .0) (o .kept .1 .0)
+            ∙ ap (λ (l : List ℕ). over l (rowsIn (s .a .now))) (o .ensures .1 ∙ ap (λ (l : List ℕ). map (λ x. x .0) (all l)) is),
+        put-back k (until .result) (s .t .now) (until .ensures) (omega (arith, e)) (o .last .1 .1 .0) (o .kept .1 .1 .0)
+            ∙ ap (λ (l : List ℕ). over l (rowsIn (s .t .now))) (o .ensures .2 ∙ ap (λ (l : List ℕ). map (λ x. x .1 % rowBound) (all l)) is),
+      ),
+    )
+
+pub row-reduce-spec : {M : Type 1} → statement M
+row-reduce-spec =
+    tie.close
+    (tie.spec
+    rows-in-requires
+    rows-in-requires-2
+    lesser-requires
+    lesser-requires-2
+    start-requires
+    start-requires-2
+    slice-relend-prefix-reduce
+    slice-aggregate-reduce
+    slice-relend-prefix-reduce-2
+    slice-aggregate-reduce-2
+    slice-aggregate-reduce-3
+    reduce-requires
+    same-length
+    same-length-2
+    returns)

@@ -1,0 +1,4 @@
+pub mod Forms
+pub mod Core
+pub mod Loops
+pub mod Parts

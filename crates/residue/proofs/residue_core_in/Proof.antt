@@ -1,0 +1,117 @@
+-- `residue_core_in` reduces the residue, by `residue-from` and `reduced-whole`, and puts the front of what is left, by `basis-end` and `core-end`.
+-- Assumes nothing.
+use mathlib.Core.Path.{_≡_, sym, ap, _∙_}
+use mathlib.Core.List.{List, _++_}
+use Prim.Native.Nat.{ℕ, _+_}
+use lib.ListN.{length, take, drop}
+use Rattle.blocks.specs.Words.{rowsIn, over}
+use Rattle.blocks.proofs.Values.{unmapped}
+use Rattle.actions.specs.Actions.{qubits, matrix}
+use Rattle.symplectic.specs.Turns.{identityPlus}
+use Rattle.actions.proofs.Arrays.{qubits-le, matrix-length}
+use Rattle.reduction.specs.Columns.{rowReduceWithTransform}
+use Rattle.reduction.specs.inner.Sweeps.{ReducedIn}
+use Rattle.reduction.proofs.InPlace.{reduced-whole}
+use Rattle.reduction.proofs.Parts.{rank-in-rows, rank-in-transform}
+use Rattle.residue.specs.Residue.{residue}
+use Rattle.residue.proofs.Parts.{residue-from, rank-wide, rank-end, basis-end, core-end}
+use Rattle.blocks.proofs.Lent.{lent-same}
+use native.Mathlib.Omega.{arith}
+use borrow.Author.Needs.{needs}
+use Rattle.residue.proofs.residue_core_in.Statement.{statement}
+use Rattle.residue.proofs.residue_core_in.Tie as tie
+
+size : (c : tie.Start) → length (matrix (c .args .a)) ≡ qubits (c .args .a) + qubits (c .args .a)
+size c = matrix-length (c .args .a) (search (needs, unmapped))
+
+-- the rows are those of the residue
+is : (c : tie.After-put-plus) → let a = c .before .before .before .before .before .before .before .args .a in rowsIn (c .put-plus .last .1 .1 .0) ≡ residue (qubits a) (matrix a)
+is c =
+    let a = c .before .before .before .before .before .before .before .args .a in
+    let l = identityPlus (qubits a) (matrix a) in
+    c .put-plus .ensures ∙ ap (λ (k : ℕ). drop k l ++ take k l) (c .before .before .qubits-of .ensures) ∙ residue-from (qubits a) (matrix a)
+
+-- and they are reduced, all of them
+done : (c : tie.After-row-reduce)
+    → let n = c .before .before .before .before .before .before .before .qubits-of .result in let M = rowsIn (c .before .before .before .before .before .put-plus .last .1 .1 .0) in
+    ReducedIn (n + n) M (c .row-reduce .result) (rowsIn (c .row-reduce .last .1 .0)) (rowsIn (c .row-reduce .last .1 .1 .0)) (rowReduceWithTransform (n + n) M .pivots)
+done c =
+    let start = c .before .before .before .before .before .before .before .before .before .before .before .before in
+    let s = start .args in
+    let n = c .before .before .before .before .before .before .before .qubits-of .result in
+    let put = c .before .before .before .before .before .put-plus in
+    let r = c .row-reduce in
+    let long = lent-same (put .last .1 .1 .0) (s .rows .now) (put .kept .1 .1 .0) ∙ start .pre .0 in
+    reduced-whole (n + n) (r .result) _ (rowsIn (s .transform .now)) _ _ (long ∙ sym (start .pre .1)) (omega (arith, long, qubits-le (s .a))) (r .ensures .0) (r .ensures .1 .0) (r .ensures .1 .1)
+
+qubits-of-requires : tie.Need-qubits-of-requires
+qubits-of-requires c κs = search needs
+
+put-plus-requires : tie.Need-put-plus-requires
+put-plus-requires c κs = search needs
+
+add-row-reduce : tie.Need-add-row-reduce
+add-row-reduce c = omega (arith, c .before .before .before .before .qubits-of .ensures, qubits-le (c .before .before .before .before .before .before .before .before .before .args .a))
+
+row-reduce-requires : tie.Need-row-reduce-requires
+row-reduce-requires c κs = search needs
+
+put-front-requires : tie.Need-put-front-requires
+put-front-requires c κs =
+    let n = c .before .before .before .before .before .before .before .before .before .before .before .before .before .qubits-of .result in
+    let r = c .before .before .before .before .before .before in
+    rank-in-rows (n + n) (r .row-reduce .result) _ _ _ _ (done r)
+
+put-core-requires : tie.Need-put-core-requires
+put-core-requires c κs =
+    let start = c .before .before .before .before .before .before .before .before .before .before .before .before .before .before .before .before .before .before .before .before .before .before .before .before in
+    let a = start .args .a in
+    let n = c .before .before .before .before .before .before .before .before .before .before .before .before .before .before .before .before .before .before .before .qubits-of in
+    let put = c .before .before .before .before .before .before .before .before .before .before .before .before .before .before .before .before .before in
+    let r = c .before .before .before .before .before .before .before .before .before .before .before .before in (
+      rank-wide (n .result) (qubits a) (r .row-reduce .result) (matrix a) _ _ _ _ (size start) (qubits-le a) (n .ensures) (is put) (done r),
+      rank-in-rows (n .result + n .result) (r .row-reduce .result) _ _ _ _ (done r),
+      rank-in-transform (n .result + n .result) (r .row-reduce .result) _ _ _ _ (done r),
+    )
+
+same-length : tie.Need-same-length
+same-length c = search needs
+
+same-length-2 : tie.Need-same-length-2
+same-length-2 c = search needs
+
+same-length-3 : tie.Need-same-length-3
+same-length-3 c = search needs
+
+same-length-4 : tie.Need-same-length-4
+same-length-4 c = search needs
+
+returns : tie.Need-returns
+returns c =
+    let start = c .before .before .before .before .before .before .before .before .before .before .before .before .before .before .before .before .before .before .before .before .before .before .before .before .before .before .before in
+    let s = start .args in
+    let a = s .a in
+    let n = c .before .before .before .before .before .before .before .before .before .before .before .before .before .before .before .before .before .before .before .before .before .before .qubits-of in
+    let put = c .before .before .before .before .before .before .before .before .before .before .before .before .before .before .before .before .before .before .before .before in
+    let r = c .before .before .before .before .before .before .before .before .before .before .before .before .before .before .before in
+    let rank = rank-end (n .result) (qubits a) (r .row-reduce .result) (matrix a) _ _ _ _ (size start) (qubits-le a) (n .ensures) (is put) (done r) in
+    let basis = basis-end (n .result) (qubits a) (r .row-reduce .result) (matrix a) _ _ _ _ (size start) (qubits-le a) (n .ensures) (is put) (done r) in
+    let core = core-end (n .result) (qubits a) (r .row-reduce .result) (matrix a) _ _ _ _ (size start) (qubits-le a) (n .ensures) (is put) (done r) in
+    let based = c .before .before .before .before .before .before .before .before .put-front .ensures ∙ ap (λ (l : List ℕ). over l (rowsIn (s .basis .now))) basis in
+    (rank, (based, c .before .before .put-core .ensures ∙ ap (λ (l : List ℕ). over l (rowsIn (s .core .now))) core))
+
+pub residue-core-in-spec : {M : Type 1} → statement M
+residue-core-in-spec =
+    tie.close
+    (tie.spec
+    qubits-of-requires
+    put-plus-requires
+    add-row-reduce
+    row-reduce-requires
+    put-front-requires
+    put-core-requires
+    same-length
+    same-length-2
+    same-length-3
+    same-length-4
+    returns)
