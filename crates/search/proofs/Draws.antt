@@ -22,8 +22,8 @@ use Rattle.search.proofs.Grams.{gram-length}
 use Rattle.search.proofs.Levels.{levels-step, levels-least, levels-behind, front-less, level-rows, back-front, found-back}
 use Rattle.search.proofs.Passing.{first-hit, rest-length, passed-rest, passed-gram}
 
--- the steps: members passed on (b₁), the draw kept behind them (b₂), Gram rows passed on (g₂)
-pub record Steps (d : ℕ) (b₀ g₀ : List ℕ) (c g j : ℕ) (b₁ b₂ g₂ : List ℕ) : Type 0 where
+-- what is known once the Gram rows are passed on (g₂)
+pub record Drawn (d : ℕ) (b₀ g₀ : List ℕ) (c g j : ℕ) (g₂ : List ℕ) : Type 0 where
   pub some : 0 < d
   pub fits : d ≤ width
   pub b-room : levels d ≤ length b₀
@@ -31,45 +31,34 @@ pub record Steps (d : ℕ) (b₀ g₀ : List ℕ) (c g j : ℕ) (b₁ b₂ g₂ 
   pub sum : g ≡ times c (take d g₀)
   pub on : dot c g ≡ true
   pub column : j ≡ lowest g
-  pub b₁-long : length b₁ ≡ length b₀
-  pub b₁-front : take (d + d) b₁ ≡ take (d + d) b₀
-  pub b₁-rows : j < d → (i : ℕ) → i < d - 1 → getD b₁ (d + d + i) 0 ≡ passedAt g j (take d b₀) i
-  pub b₂-is : b₂ ≡ set b₁ d c
   pub g₂-long : length g₂ ≡ length g₀
   pub g₂-front : take (d + d) g₂ ≡ take (d + d) g₀
   pub g₂-rows : j < d → (i : ℕ) → i < d - 1 → getD g₂ (d + d + i) 0 ≡ shrunk j g (passedAt g j (take d g₀) i)
 
-module _ (d : ℕ) (b₀ g₀ : List ℕ) (c g j : ℕ) (b₁ b₂ g₂ : List ℕ) (s : Steps d b₀ g₀ c g j b₁ b₂ g₂) where
-  pub b₂-long : length b₂ ≡ length b₀
-  b₂-long = ap length (s .b₂-is) ∙ length-set b₁ d c ∙ s .b₁-long
+-- the members are passed on too (b₁), and the draw kept behind them (b₂)
+pub record Moved (d : ℕ) (b₀ : List ℕ) (c g j : ℕ) (b₁ b₂ : List ℕ) : Type 0 where
+  pub b₁-long : length b₁ ≡ length b₀
+  pub b₁-front : take (d + d) b₁ ≡ take (d + d) b₀
+  pub b₁-rows : j < d → (i : ℕ) → i < d - 1 → getD b₁ (d + d + i) 0 ≡ passedAt g j (take d b₀) i
+  pub b₂-is : b₂ ≡ set b₁ d c
 
-  behind-b : d + d + (d - 1) ≤ length b₂
-  behind-b = omega (arith, levels-behind d (s .some), s .b-room, b₂-long)
-
+module _ (d : ℕ) (b₀ g₀ : List ℕ) (c g j : ℕ) (g₂ : List ℕ) (s : Drawn d b₀ g₀ c g j g₂) where
   behind-g : d + d + (d - 1) ≤ length g₂
   behind-g = omega (arith, levels-behind d (s .some), s .g-room, s .g₂-long)
 
-  -- the level's own rows stay, whatever comes back behind it
-  pub basis-kept : (ys : List ℕ) → take d (take (d + d) b₂ ++ ys) ≡ take d b₀
-  basis-kept ys =
-      back-front (d + d) b₂ ys (omega (arith, behind-b)) d (omega arith) ∙ ap (take d) (s .b₂-is) ∙ take-set-le d b₁ d c (le-refl d)
-      ∙ front-less d (d + d) b₁ b₀ (omega arith) (s .b₁-front)
-
-  pub gram-kept : (ys : List ℕ) → take (d + d) (take (d + d) g₂ ++ ys) ≡ take (d + d) g₀
-  gram-kept ys = back-front (d + d) g₂ ys (omega (arith, behind-g)) (d + d) (le-refl (d + d)) ∙ s .g₂-front
-
-  pub room-b : levels (d - 1) ≤ length (drop (d + d) b₂)
-  room-b = omega (arith, length-drop (d + d) b₂, levels-step d (s .some), b₂-long, s .b-room)
-
   pub room-g : levels (d - 1) ≤ length (drop (d + d) g₂)
   room-g = omega (arith, length-drop (d + d) g₂, levels-step d (s .some), s .g₂-long, s .g-room)
+
+  -- the level's own rows stay, whatever comes back behind it
+  pub gram-kept : (ys : List ℕ) → take (d + d) (take (d + d) g₂ ++ ys) ≡ take (d + d) g₀
+  gram-kept ys = back-front (d + d) g₂ ys (omega (arith, behind-g)) (d + d) (le-refl (d + d)) ∙ s .g₂-front
 
   module _ (E : List ℕ) (is : gramOf E (take d b₀) ≡ take d g₀) where
     abbrev p : ℕ
     p = times c (take d b₀)
 
-    abbrev rest : List ℕ
-    rest = complement (form E p) (take d b₀)
+    abbrev pub rest : List ℕ
+    rest = complement (form E (times c (take d b₀))) (take d b₀)
 
     size : length (take d b₀) ≡ d
     size = length-take-le d b₀ (omega (arith, levels-least d, s .b-room))
@@ -80,24 +69,39 @@ module _ (d : ℕ) (b₀ g₀ : List ℕ) (c g j : ℕ) (b₁ b₂ g₂ : List �
     short : length rest ≡ d - 1
     short = rest-length d (s .fits) E (take d b₀) (take d g₀) size is c g j (s .sum) (s .on) (s .column)
 
-    pub child : take (d - 1) (drop (d + d) b₂) ≡ rest
-    child =
-        level-rows (d - 1) (d + d) b₂ rest behind-b short
-        (λ i l. ap (λ w. getD w (d + d + i) 0) (s .b₂-is) ∙ getD-set-other b₁ d (d + d + i) c 0 (λ q. omega (arith, s .some)) ∙ s .b₁-rows inside i l
-        ∙ passed-rest d (s .fits) E (take d b₀) (take d g₀) size is c g j (s .sum) (s .on) (s .column) i l)
-
-    pub child-gram : gramOf E (take (d - 1) (drop (d + d) b₂)) ≡ take (d - 1) (drop (d + d) g₂)
-    child-gram =
-        ap (gramOf E) child
-        ∙ sym (level-rows (d - 1) (d + d) g₂ (gramOf E rest) behind-g (gram-length E rest (gramOf E rest) refl ∙ short)
+    pub rest-gram : gramOf E rest ≡ take (d - 1) (drop (d + d) g₂)
+    rest-gram =
+        sym (level-rows (d - 1) (d + d) g₂ (gramOf E rest) behind-g (gram-length E rest (gramOf E rest) refl ∙ short)
         (λ i l. s .g₂-rows inside i l
         ∙ passed-gram d (s .fits) E (take d b₀) (take d g₀) size is c g j (s .sum) (s .on) (s .column) i l))
 
-    -- what the search of the rest came to, and the draw before it
-    pub answer : (budget looks : ℕ) (v : Ending) (k : ℕ) (ys : List ℕ)
-        → verdictOf v k (foundIn (d - 1) ys) ≡ budgeted budget (search (form E) (d - 1) (take (d - 1) (drop (d + d) b₂)) looks)
-        → verdictOf v k (foundIn d (take (d + d) b₂ ++ ys)) ≡ budgeted budget (afterRest p failed (search (form E) (d - 1) rest looks))
-    answer budget looks v k ys came =
-        ap (verdictOf v k) (found-back d c b₁ b₂ ys (s .some) (omega (arith, behind-b, b₂-long, s .b₁-long)) (s .b₂-is)
-        ∙ ap (λ M. times c M ∷ foundIn (d - 1) ys) (front-less d (d + d) b₁ b₀ (omega arith) (s .b₁-front)))
-        ∙ drawn-before budget p (search (form E) (d - 1) rest looks) v k (foundIn (d - 1) ys) (came ∙ ap (λ M. budgeted budget (search (form E) (d - 1) M looks)) child)
+  module _ (b₁ b₂ : List ℕ) (m : Moved d b₀ c g j b₁ b₂) where
+    b₂-long : length b₂ ≡ length b₀
+    b₂-long = ap length (m .b₂-is) ∙ length-set b₁ d c ∙ m .b₁-long
+
+    behind-b : d + d + (d - 1) ≤ length b₂
+    behind-b = omega (arith, levels-behind d (s .some), s .b-room, b₂-long)
+
+    pub room-b : levels (d - 1) ≤ length (drop (d + d) b₂)
+    room-b = omega (arith, length-drop (d + d) b₂, levels-step d (s .some), b₂-long, s .b-room)
+
+    pub basis-kept : (ys : List ℕ) → take d (take (d + d) b₂ ++ ys) ≡ take d b₀
+    basis-kept ys =
+        back-front (d + d) b₂ ys (omega (arith, behind-b)) d (omega arith) ∙ ap (take d) (m .b₂-is) ∙ take-set-le d b₁ d c (le-refl d)
+        ∙ front-less d (d + d) b₁ b₀ (omega arith) (m .b₁-front)
+
+    module _ (E : List ℕ) (is : gramOf E (take d b₀) ≡ take d g₀) where
+      pub child : take (d - 1) (drop (d + d) b₂) ≡ rest E is
+      child =
+          level-rows (d - 1) (d + d) b₂ (rest E is) behind-b (short E is)
+          (λ i l. ap (λ w. getD w (d + d + i) 0) (m .b₂-is) ∙ getD-set-other b₁ d (d + d + i) c 0 (λ q. omega (arith, s .some)) ∙ m .b₁-rows (inside E is) i l
+          ∙ passed-rest d (s .fits) E (take d b₀) (take d g₀) (size E is) is c g j (s .sum) (s .on) (s .column) i l)
+
+      -- what the search of the rest came to, and the draw before it
+      pub answer : (budget looks : ℕ) (v : Ending) (k : ℕ) (ys : List ℕ)
+          → verdictOf v k (foundIn (d - 1) ys) ≡ budgeted budget (search (form E) (d - 1) (take (d - 1) (drop (d + d) b₂)) looks)
+          → verdictOf v k (foundIn d (take (d + d) b₂ ++ ys)) ≡ budgeted budget (afterRest (p E is) failed (search (form E) (d - 1) (rest E is) looks))
+      answer budget looks v k ys came =
+          ap (verdictOf v k) (found-back d c b₁ b₂ ys (s .some) (omega (arith, behind-b, b₂-long, m .b₁-long)) (m .b₂-is)
+          ∙ ap (λ M. times c M ∷ foundIn (d - 1) ys) (front-less d (d + d) b₁ b₀ (omega arith) (m .b₁-front)))
+          ∙ drawn-before budget (p E is) (search (form E) (d - 1) (rest E is) looks) v k (foundIn (d - 1) ys) (came ∙ ap (λ M. budgeted budget (search (form E) (d - 1) M looks)) child)

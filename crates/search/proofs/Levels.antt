@@ -4,14 +4,15 @@ use mathlib.Core.Path.{_≡_, refl, sym, ap, ap₂, _∙_, subst}
 use mathlib.Core.Bool.{Bool}
 use mathlib.Core.Logic.{⊎-elim}
 use mathlib.Core.List.{List, [], _∷_, _++_}
-use Prim.Native.Nat.{ℕ, zero, suc, _+_, _-_, _/_, _≤_, _<_}
-use native.Mathlib.Nat.{add-zero, zero-add, suc-add, eq-or-lt-of-le, le-refl}
+use Prim.Native.Nat.{ℕ, zero, suc, _+_, _-_, _/_, _^_, _≤_, _<_}
+use native.Mathlib.Nat.{add-zero, zero-add, add-assoc, suc-add, eq-or-lt-of-le, le-refl}
 use native.Mathlib.Omega.{arith}
 use lib.Dec.{ltb}
 use lib.ListN.{length, getD, set, take, drop, length-set, length-drop}
 use lib.Seq.{drop-drop, getD-take, getD-drop, getD-set-same, getD-set-other, take-take, length-take-le, ext-getD, take-append-le, take-set-le, drop-at}
 use Rattle.binar.specs.Bits.{select, _⊕_, bit}
 use Rattle.binar.specs.Rows.{width}
+use Rattle.binar.proofs.Digits.{bit-down}
 use Rattle.blocks.specs.Matrices.{times}
 use Rattle.blocks.specs.Words.{rowsIn}
 use Rattle.blocks.proofs.Values.{rows-count}
@@ -84,6 +85,10 @@ passed-is h j d w m i inside m-is x y x-is y-is before hit b-is h-is v v-is =
     v-is ∙ ap₂ (λ a b. keptOr before a (b ⊕ select 0 hit m)) (x-is ∙ sym (getD-take d w i 0 (omega arith))) (y-is ∙ sym (getD-take d w (i + 1) 0 inside))
     ∙ ap₂ (λ b t. keptOr b (getD (take d w) i 0) (getD (take d w) (i + 1) 0 ⊕ select 0 t m)) b-is h-is
     ∙ ap (λ x. keptOr (ltb i j) (getD (take d w) i 0) (getD (take d w) (i + 1) 0 ⊕ select 0 (bit (i + 1) h) x)) m-is
+
+-- the digits of a row that moves down by one at each place
+pub digit-next : (h r r' i : ℕ) → ((k : ℕ) → bit k r ≡ bit (i + k) h) → r' ≡ r / 2 ^ 1 → (k : ℕ) → bit k r' ≡ bit (i + 1 + k) h
+digit-next h r r' i e is k = ap (bit k) is ∙ bit-down 1 k r ∙ e (1 + k) ∙ ap (λ n. bit n h) (sym (add-assoc i 1 k))
 
 -- ---- one row more behind the front, each as its place says
 

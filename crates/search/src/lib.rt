@@ -7,7 +7,7 @@ use binar::Row;
 use binar::WIDTH;
 use triangular::Ending;
 ghost use mathlib.Core.Path.{_≡_};
-ghost use mathlib.Core.Bool.{true};
+ghost use mathlib.Core.Bool.{true, false, _&&_};
 ghost use mathlib.Core.List.{List};
 ghost use Prim.Native.Nat.{ℕ, suc, _+_, _-_, _^_, _≤_, _<_};
 ghost use lib.Dec.{ltb};
@@ -28,10 +28,10 @@ pub struct Ended {
     pub looks: u64,
 }
 
-// Whether the form is alternating: each member is tested with those before it, then with itself.
+// Whether a space has members and its form is alternating: each member is tested with those before it, then with itself.
 fn is_alternating(gram: &[u64], d: usize) -> bool
     requires { ⌜ (d ≤ width) × (d ≤ length (rowsIn (now gram))) ⌝ }
-    ensures { λ r. ⌜ ((E B : List ℕ) → gramOf E B ≡ take d (rowsIn (now (gram .entry))) → r ≡ isAlternating (form E) B) ⌝ }
+    ensures { λ r. ⌜ ((E B : List ℕ) → gramOf E B ≡ take d (rowsIn (now (gram .entry))) → r ≡ (isAlternating (form E) B && ltb 0 d)) ⌝ }
 {
     let mut i: usize = 0;
     let mut j: usize = 0;
@@ -50,7 +50,7 @@ fn is_alternating(gram: &[u64], d: usize) -> bool
             j = 0;
         }
     }
-    true
+    0 < d
 }
 
 // Behind the rows, at i: the sum of rows 0 to i.
@@ -76,12 +76,6 @@ fn passed(x: Row, y: Row, m: Row, before: bool, hit: bool) -> Row
     binar::added(y, m, hit)
 }
 
-fn less(i: usize, j: usize) -> bool
-    ensures { λ r. ⌜ r ≡ ltb i j ⌝ }
-{
-    i < j
-}
-
 // A Gram row once member j has been added to those of h and dropped: so are the columns.
 fn shrunk(x: Row, h: Row, j: usize) -> Row
     ensures { λ r. ⌜ val r ≡ shrunkOf j (val h) (val x) ⌝ }
@@ -91,34 +85,50 @@ fn shrunk(x: Row, h: Row, j: usize) -> Row
     binar::sum(low, binar::shift_down(binar::sum(y, low), 1))
 }
 
-// Member j is dropped and added to each later one of h, and the Gram rows and columns with it; what is passed on is put behind the level.
-fn pass(basis: &mut [u64], gram: &mut [u64], d: usize, h: Row, j: usize)
-    requires { ⌜ (0 < d) × (d ≤ width) × (d + d + (d - 1) ≤ length (rowsIn (now basis))) × (d + d + (d - 1) ≤ length (rowsIn (now gram))) ⌝ }
+// Member j is dropped and added to each later one of h; what is passed on is put behind the level. At i, r is h from column i on.
+fn pass_members(basis: &mut [u64], d: usize, h: Row, j: usize)
+    requires { ⌜ (0 < d) × (d ≤ width) × (d + d + (d - 1) ≤ length (rowsIn (now basis))) ⌝ }
     ensures { λ _. ⌜ (take (d + d) (rowsIn (now (basis .exit))) ≡ take (d + d) (rowsIn (now (basis .entry))))
-        × (take (d + d) (rowsIn (now (gram .exit))) ≡ take (d + d) (rowsIn (now (gram .entry))))
-        × (j < d → (i : ℕ) → i < d - 1 → getD (rowsIn (now (basis .exit))) (d + d + i) 0 ≡ passedAt (val h) j (take d (rowsIn (now (basis .entry)))) i)
-        × (j < d → (i : ℕ) → i < d - 1 → getD (rowsIn (now (gram .exit))) (d + d + i) 0 ≡ shrunkOf j (val h) (passedAt (val h) j (take d (rowsIn (now (gram .entry)))) i)) ⌝ }
+        × (j < d → (i : ℕ) → i < d - 1 → getD (rowsIn (now (basis .exit))) (d + d + i) 0 ≡ passedAt (val h) j (take d (rowsIn (now (basis .entry)))) i) ⌝ }
 {
     let to = d + d;
     let last = d - 1;
     let m = blocks::row(basis, j);
-    let g = blocks::row(gram, j);
     let mut x = blocks::row(basis, 0);
-    let mut y = blocks::row(gram, 0);
+    let mut r = h;
     for i in 0..last {
         let n = i + 1;
-        let before = less(i, j);
-        let hit = binar::bit(h, n);
+        r = binar::shift_down(r, 1);
+        let hit = binar::bit(r, 0);
         let u = blocks::row(basis, n);
-        let v = blocks::row(gram, n);
-        blocks::put(basis, to + i, passed(x, u, m, before, hit));
-        blocks::put(gram, to + i, shrunk(passed(y, v, g, before, hit), h, j));
+        blocks::put(basis, to + i, passed(x, u, m, i < j, hit));
         x = u;
-        y = v;
     }
 }
 
-// The search of what a draw passes on: c are its coefficients, and g, the Gram rows of c, says which members it has form one with.
+// The same of the Gram rows, and of their columns.
+fn pass_gram(gram: &mut [u64], d: usize, h: Row, j: usize)
+    requires { ⌜ (0 < d) × (d ≤ width) × (d + d + (d - 1) ≤ length (rowsIn (now gram))) ⌝ }
+    ensures { λ _. ⌜ (take (d + d) (rowsIn (now (gram .exit))) ≡ take (d + d) (rowsIn (now (gram .entry))))
+        × (j < d → (i : ℕ) → i < d - 1 → getD (rowsIn (now (gram .exit))) (d + d + i) 0 ≡ shrunkOf j (val h) (passedAt (val h) j (take d (rowsIn (now (gram .entry)))) i)) ⌝ }
+{
+    let to = d + d;
+    let last = d - 1;
+    let m = blocks::row(gram, j);
+    let mut x = blocks::row(gram, 0);
+    let mut r = h;
+    for i in 0..last {
+        let n = i + 1;
+        r = binar::shift_down(r, 1);
+        let u = blocks::row(gram, n);
+        let y = passed(x, u, m, i < j, binar::bit(r, 0));
+        blocks::put(gram, to + i, shrunk(y, h, j));
+        x = u;
+    }
+}
+
+// The search of what a draw passes on: c are its coefficients, and g, the Gram rows of c, says which members it has form one with. The
+// members are passed on only if what is passed on is not alternating, which its Gram rows tell.
 fn try_draw(
     basis: &mut [u64],
     gram: &mut [u64],
@@ -137,28 +147,31 @@ fn try_draw(
         ≡ budgeted budget (afterRest p failed (search (form E) (d - 1) (complement (form E p) (take d (rowsIn (now (basis .entry))))) looks)))) ⌝ }
 {
     let j = binar::lowest(g);
-    pass(basis, gram, d, g, j);
+    pass_gram(gram, d, g, j);
+    let s = blocks::start(&gram[..], d + d);
+    if is_alternating(&gram[s..], d - 1) {
+        return Ended {
+            ending: Ending::Failed,
+            looks: looks,
+        };
+    }
+    pass_members(basis, d, g, j);
     blocks::put(basis, d, c);
     let b = blocks::start(&basis[..], d + d);
-    let s = blocks::start(&gram[..], d + d);
     try_space(&mut basis[b..], &mut gram[s..], d - 1, looks, budget)
 }
 
-// The search of a space: its vectors in the order of their coefficients c, the Gram rows of each from those of the one before it.
+// The search of a space that is empty or not alternating: its vectors in the order of their coefficients c, the Gram rows of each from
+// those of the one before it.
 fn try_space(basis: &mut [u64], gram: &mut [u64], d: usize, looks: u64, budget: u64) -> Ended
-    requires { ⌜ (d ≤ width) × (levels d ≤ length (rowsIn (now basis))) × (levels d ≤ length (rowsIn (now gram))) × (looks ≤ budget) ⌝ }
+    requires { ⌜ (d ≤ width) × (levels d ≤ length (rowsIn (now basis))) × (levels d ≤ length (rowsIn (now gram))) × (looks ≤ budget)
+        × ((E : List ℕ) → gramOf E (take d (rowsIn (now basis))) ≡ take d (rowsIn (now gram)) → (isAlternating (form E) (take d (rowsIn (now basis))) && ltb 0 d) ≡ false) ⌝ }
     ensures { λ r. ⌜ (r .looks ≤ budget) × ((E : List ℕ) → gramOf E (take d (rowsIn (now (basis .entry)))) ≡ take d (rowsIn (now (gram .entry)))
         → verdictOf (r .ending) (r .looks) (foundIn d (rowsIn (now (basis .exit)))) ≡ budgeted budget (search (form E) d (take d (rowsIn (now (basis .entry)))) looks)) ⌝ }
 {
     if d == 0 {
         return Ended {
             ending: Ending::Found,
-            looks: looks,
-        };
-    }
-    if is_alternating(&gram[..], d) {
-        return Ended {
-            ending: Ending::Failed,
             looks: looks,
         };
     }
@@ -245,6 +258,12 @@ fn searched(
     ensures left { λ r. ⌜ rowsIn (now (list .exit)) ≡ over (basisFound (budgeted budget (search (form (coreIn (now (core .entry)))) (length (coreIn (now (core .entry)))) (units (length (coreIn (now (core .entry))))) 0))) (rowsIn (now (list .entry))) ⌝ }
 {
     begin(basis, gram, core, k);
+    if is_alternating(&gram[..], k) {
+        return Ended {
+            ending: Ending::Failed,
+            looks: 0,
+        };
+    }
     let o = try_space(basis, gram, k, 0, budget);
     let e = o.ending;
     match e {

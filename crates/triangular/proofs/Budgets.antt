@@ -2,14 +2,14 @@
 -- Assumes nothing.
 use mathlib.Core.Path.{_≡_, refl, sym, ap, ap₂, _∙_, subst}
 use mathlib.Core.Logic.{_⊎_, ⊎-elim}
-use mathlib.Core.Bool.{Bool, true, false}
+use mathlib.Core.Bool.{Bool, true, false, _&&_, and-eq-true-iff, and-true}
 use mathlib.Core.List.{List, [], _∷_}
 use Prim.Native.Nat.{ℕ, zero, suc, _+_, _-_, _^_, _≤_, _<_}
 use native.Mathlib.Nat.{le-refl, not-suc-le-zero, lt-of-lt-of-le}
 use native.Mathlib.Numerals.{add-one, sub-one}
 use native.Mathlib.Omega.{arith}
-use borrow.Author.Tests.{lt-leb, le-leb, leb-true, leb-false}
-use lib.Dec.{leb}
+use borrow.Author.Tests.{lt-leb, le-leb, leb-true, leb-false, ltb-true, lt-ltb}
+use lib.Dec.{leb, ltb}
 use Rattle.blocks.specs.Matrices.{times}
 use Rattle.triangular.specs.declared.Ending.{Ending}
 use Rattle.triangular.specs.declared.Ending.the-variants.{Found, Failed, Spent}
@@ -108,6 +108,11 @@ module _ (budget p : ℕ) (out : Outcome) where
   drawn-before Failed k l e = rest-failed Failed k l e refl
   drawn-before Spent k l e = rest-spent Spent k l e refl
 
+  -- nothing was found
+  pub drawn-failed : (k : ℕ) → ended (failed k) ≡ budgeted budget out → ended (failed k) ≡ budgeted budget (afterRest p failed out)
+  unfolding verdictOf
+  drawn-failed k e = drawn-before Failed k [] e
+
 -- ---- a space
 
 space-step : (E : ℕ → ℕ → Bool) (bs : List ℕ) (looks d : ℕ) → 0 < d
@@ -122,21 +127,23 @@ module _ (E : ℕ → ℕ → Bool) (budget looks : ℕ) (bs : List ℕ) (d : �
   unfolding search
   space-empty e h = sym (ends budget (found [] looks) h) ∙ ap (λ n. budgeted budget (search E n bs looks)) (sym e)
 
-  pub space-alternating : 0 < d → isAlternating E bs ≡ true → looks ≤ budget → ended (failed looks) ≡ budgeted budget (search E d bs looks)
-  space-alternating p a h =
+  pub space-alternating : (isAlternating E bs && ltb 0 d) ≡ true → looks ≤ budget → ended (failed looks) ≡ budgeted budget (search E d bs looks)
+  space-alternating a h =
+      let k = and-eq-true-iff (isAlternating E bs) (ltb 0 d) .0 a in
       sym (ends budget (failed looks) h)
-      ∙ ap (λ b. budgeted budget (unlessAlternating b (draws E (search E (d - 1)) bs (2 ^ d - 1) 1) looks)) (sym a)
-      ∙ ap (budgeted budget) (sym (space-step E bs looks d p))
+      ∙ ap (λ b. budgeted budget (unlessAlternating b (draws E (search E (d - 1)) bs (2 ^ d - 1) 1) looks)) (sym (k .0))
+      ∙ ap (budgeted budget) (sym (space-step E bs looks d (ltb-true 0 d (k .1))))
 
   -- the loop begins
-  pub space-begun : (last c : ℕ) → last ≡ 2 ^ d - 1 → c ≡ 0 → 0 < d → isAlternating E bs ≡ false
+  pub space-begun : (last c : ℕ) → last ≡ 2 ^ d - 1 → c ≡ 0 → 0 < d → (isAlternating E bs && ltb 0 d) ≡ false
       → budgeted budget (draws E (search E (d - 1)) bs (last - c) (c + 1) looks) ≡ budgeted budget (search E d bs looks)
   space-begun last c e z p a =
       let f : last - c ≡ 2 ^ d - 1 = omega arith in
       let g : c + 1 ≡ 1 = omega arith in
+      let b : isAlternating E bs ≡ false = sym (and-true (isAlternating E bs)) ∙ ap (λ t. isAlternating E bs && t) (sym (lt-ltb 0 d p)) ∙ a in
       ap (budgeted budget) (
       ap₂ (λ n x. draws E (search E (d - 1)) bs n x looks) f g
-      ∙ ap (λ b. unlessAlternating b (draws E (search E (d - 1)) bs (2 ^ d - 1) 1) looks) (sym a) ∙ sym (space-step E bs looks d p)
+      ∙ ap (λ b. unlessAlternating b (draws E (search E (d - 1)) bs (2 ^ d - 1) 1) looks) (sym b) ∙ sym (space-step E bs looks d p)
       )
 
 -- ---- its draws: c of them are behind the loop, and A is the verdict to be given

@@ -9,7 +9,6 @@ use Rattle.blocks.specs.Words.{rowsIn}
 use Rattle.triangular.specs.Readings.{coreIn}
 use Rattle.triangular.proofs.Cores.{core-in}
 use native.Mathlib.Omega.{arith}
-use borrow.Author.Needs.{needs}
 use Rattle.search.proofs.congruence_triangularize.Statement.{statement}
 use Rattle.search.proofs.congruence_triangularize.Tie as tie
 
@@ -18,10 +17,10 @@ size : (ws : List ℕ) (m k : ℕ) → m ≡ length (rowsIn ws) → k ≡ min wi
 size ws m k e f = (omega arith, f ∙ ap (min width) e ∙ sym (length-take width (rowsIn ws)) ∙ ap length (sym (core-in ws)))
 
 rows-in-requires : tie.Need-rows-in-requires
-rows-in-requires c κs = search needs
+rows-in-requires c κs = tt
 
 lesser-requires : tie.Need-lesser-requires
-lesser-requires c κs = search needs
+lesser-requires c κs = tt
 
 within-8-requires : tie.Need-within-8-requires
 within-8-requires c κs =
@@ -29,10 +28,10 @@ within-8-requires c κs =
     (omega (arith, c .before .if1 .taken), e .1)
 
 same-length : tie.Need-same-length
-same-length c = search needs
+same-length c = c .before .before .within-8 .kept .1 .1 .1 .0
 
 returns : tie.Need-returns
-returns c = search needs
+returns c = c .before .before .within-8 .ensures
 
 within-16-requires : tie.Need-within-16-requires
 within-16-requires c κs =
@@ -40,10 +39,10 @@ within-16-requires c κs =
     (omega (arith, c .before .if2 .taken), e .1)
 
 same-length-2 : tie.Need-same-length-2
-same-length-2 c = search needs
+same-length-2 c = c .before .before .within-16 .kept .1 .1 .1 .0
 
 returns-2 : tie.Need-returns-2
-returns-2 c = search needs
+returns-2 c = c .before .before .within-16 .ensures
 
 within-32-requires : tie.Need-within-32-requires
 within-32-requires c κs =
@@ -51,10 +50,10 @@ within-32-requires c κs =
     (omega (arith, c .before .if3 .taken), e .1)
 
 same-length-3 : tie.Need-same-length-3
-same-length-3 c = search needs
+same-length-3 c = c .before .before .within-32 .kept .1 .1 .1 .0
 
 returns-3 : tie.Need-returns-3
-returns-3 c = search needs
+returns-3 c = c .before .before .within-32 .ensures
 
 within-64-requires : tie.Need-within-64-requires
 within-64-requires c κs =
@@ -62,10 +61,10 @@ within-64-requires c κs =
     (omega (arith, e .0), e .1)
 
 same-length-4 : tie.Need-same-length-4
-same-length-4 c = search needs
+same-length-4 c = c .before .before .within-64 .kept .1 .1 .1 .0
 
 returns-4 : tie.Need-returns-4
-returns-4 c = search needs
+returns-4 c = c .before .before .within-64 .ensures
 
 pub congruence-triangularize-spec : {M : Type 1} → statement M
 congruence-triangularize-spec =

@@ -1,10 +1,11 @@
 -- `is_alternating` tests pair by pair, by the laws of `Alternates`; a bit of a Gram row is a form.
 -- Assumes nothing.
 use mathlib.Core.Path.{_≡_, sym, ap, _∙_}
-use mathlib.Core.Bool.{true, Bool·beq}
+use mathlib.Core.Bool.{true, _&&_, Bool·beq}
 use mathlib.Core.List.{List}
 use Prim.Native.Nat.{ℕ, _+_, _-_, _*_, _≤_}
 use native.Mathlib.Omega.{arith}
+use lib.Dec.{ltb}
 use lib.ListN.{getD, take}
 use lib.Seq.{take-all}
 use borrow.Author.Tests.{not-true, not-false}
@@ -50,10 +51,10 @@ returns c =
     let size = lent-length (s .d) (rowsIn (s .gram .now)) (c .before .before .before .before .before .before .before .before .before .pre .1) E B e in
     let a = c .before .before .before .bit in
     let b = c .before .bit2 in
-    sym (fails-pair (form E) B (at .i) (at .j) (omega (arith, size)) (omega (arith, size))
+    ap (λ b. b && ltb 0 (s .d)) (sym (fails-pair (form E) B (at .i) (at .j) (omega (arith, size)) (omega (arith, size))
     (λ q. beq-differ (a .result) (b .result) (not-true (Bool·beq (a .result) (b .result)) (c .if2 .taken))
     (lent-bit (s .d) (rowsIn (s .gram .now)) (c .before .before .before .before .before .before .before .before .before .pre .1) E B e (at .i) (at .j) (search needs) (omega arith) (val (c .before .before .before .before .before .row .result)) (c .before .before .before .before .before .row .ensures) (a .result) (a .ensures) ∙ q
-    ∙ sym (lent-bit (s .d) (rowsIn (s .gram .now)) (c .before .before .before .before .before .before .before .before .before .pre .1) E B e (at .j) (at .i) (omega arith) (search needs) (val (c .before .before .row2 .result)) (c .before .before .row2 .ensures) (b .result) (b .ensures)))))
+    ∙ sym (lent-bit (s .d) (rowsIn (s .gram .now)) (c .before .before .before .before .before .before .before .before .before .pre .1) E B e (at .j) (at .i) (omega arith) (search needs) (val (c .before .before .row2 .result)) (c .before .before .row2 .ensures) (b .result) (b .ensures))))))
 
 add-j : tie.Need-add-j Inv-loop μ-loop
 add-j c = search needs
@@ -89,8 +90,8 @@ returns-2 c =
     let s = c .before .before .before .before .before .before .before .args in
     let size = lent-length (s .d) (rowsIn (s .gram .now)) (c .before .before .before .before .before .before .before .pre .1) E B e in
     let a = c .before .bit3 in
-    sym (fails-diagonal (form E) B (at .i) (omega (arith, size))
-    (sym (lent-bit (s .d) (rowsIn (s .gram .now)) (c .before .before .before .before .before .before .before .pre .1) E B e (at .i) (at .i) (search needs) (search needs) (val (c .before .before .before .row .result)) (c .before .before .before .row .ensures) (a .result) (a .ensures)) ∙ c .if3 .taken))
+    ap (λ b. b && ltb 0 (s .d)) (sym (fails-diagonal (form E) B (at .i) (omega (arith, size))
+    (sym (lent-bit (s .d) (rowsIn (s .gram .now)) (c .before .before .before .before .before .before .before .pre .1) E B e (at .i) (at .i) (search needs) (search needs) (val (c .before .before .before .row .result)) (c .before .before .before .row .ensures) (a .result) (a .ensures)) ∙ c .if3 .taken)))
 
 add-i : tie.Need-add-i Inv-loop μ-loop
 add-i c = search needs
@@ -121,7 +122,7 @@ returns-3 c =
     let at = c .before .loop in
     let s = c .before .before .before .args in
     let size = lent-length (s .d) (rowsIn (s .gram .now)) (c .before .before .before .pre .1) E B e in
-    sym (at .inv .2 E B e .0) ∙ ap (isAlternating (form E)) (take-all (at .i) B (omega (arith, size)))
+    ap (λ b. b && ltb 0 (s .d)) (sym (at .inv .2 E B e .0) ∙ ap (isAlternating (form E)) (take-all (at .i) B (omega (arith, size))))
 
 pub is-alternating-spec : {M : Type 1} → statement M
 is-alternating-spec =

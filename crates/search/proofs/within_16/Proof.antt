@@ -1,28 +1,27 @@
 -- `within_16`: 272 words have room for the levels from dimension 16 down.
 -- Assumes nothing.
-use mathlib.Core.Path.{sym}
+use mathlib.Core.Path.{refl, sym}
 use native.Mathlib.Omega.{arith}
 use Rattle.search.proofs.Levels.{levels-fit, levels-16}
-use borrow.Author.Needs.{needs}
 use Rattle.search.proofs.within_16.Statement.{statement}
 use Rattle.search.proofs.within_16.Tie as tie
 
 slice-aggregate-searched : tie.Need-slice-aggregate-searched
-slice-aggregate-searched c = search needs
+slice-aggregate-searched c = refl
 
 slice-aggregate-searched-2 : tie.Need-slice-aggregate-searched-2
-slice-aggregate-searched-2 c = search needs
+slice-aggregate-searched-2 c = refl
 
 searched-requires : tie.Need-searched-requires
 searched-requires c κs =
     let s = c .before .before .before .before .before in
-    (omega (arith, s .pre .0), s .pre .1, levels-fit (s .args .k) 16 _ (s .pre .0) (search (needs, sym levels-16)), levels-fit (s .args .k) 16 _ (s .pre .0) (search (needs, sym levels-16)))
+    (omega (arith, s .pre .0), s .pre .1, levels-fit (s .args .k) 16 _ (s .pre .0) (sym levels-16), levels-fit (s .args .k) 16 _ (s .pre .0) (sym levels-16))
 
 same-length : tie.Need-same-length
-same-length c = search needs
+same-length c = c .before .before .before .before .searched .kept .1 .1 .1 .1 .1 .0
 
 returns : tie.Need-returns
-returns c = search needs
+returns c = c .before .before .before .before .searched .ensures
 
 pub within-16-spec : {M : Type 1} → statement M
 within-16-spec =

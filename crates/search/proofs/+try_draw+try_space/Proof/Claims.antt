@@ -29,7 +29,8 @@ use Rattle.blocks.proofs.put.Reads as put-reads
 use Rattle.blocks.proofs.row.Reads as row-reads
 use Rattle.blocks.proofs.start.Reads as start-reads
 use Rattle.search.proofs.is_alternating.Reads as is-alternating-reads
-use Rattle.search.proofs.pass.Reads as pass-reads
+use Rattle.search.proofs.pass_gram.Reads as pass-gram-reads
+use Rattle.search.proofs.pass_members.Reads as pass-members-reads
 use Rattle.search.proofs.sums.Reads as sums-reads
 
 -- the dimension falls; a space is above its draws
@@ -54,12 +55,25 @@ try-space-below t =
     and 2 try-space-kinds.ps (falls 2 try-space-kinds.ps _<_ μ-try-space t) try-space.Pre
 
 abbrev pub draw-claims : ℕ → try-draw-lts.Claims
-draw-claims t = (lowest-reads.Asked, lowest-reads.Learnt, pass-reads.Asked, pass-reads.Learnt, put-reads.Asked, put-reads.Learnt, start-reads.Asked, start-reads.Learnt, try-space-below t, try-space.Post)
+draw-claims t = (
+  lowest-reads.Asked,
+  lowest-reads.Learnt,
+  pass-gram-reads.Asked,
+  pass-gram-reads.Learnt,
+  start-reads.Asked,
+  start-reads.Learnt,
+  is-alternating-reads.Asked,
+  is-alternating-reads.Learnt,
+  pass-members-reads.Asked,
+  pass-members-reads.Learnt,
+  put-reads.Asked,
+  put-reads.Learnt,
+  try-space-below t,
+  try-space.Post,
+)
 
 abbrev pub space-claims : ℕ → try-space-lts.Claims
 space-claims t = (
-  is-alternating-reads.Asked,
-  is-alternating-reads.Learnt,
   sums-reads.Asked,
   sums-reads.Learnt,
   low-ones-reads.Asked,

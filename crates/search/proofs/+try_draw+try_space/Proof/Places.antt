@@ -5,7 +5,6 @@ use mathlib.Core.List.{List}
 use Prim.Native.Nat.{ℕ, suc, _+_, _-_, _^_, _<_}
 use native.Mathlib.Nat.{pos-of-ne-zero}
 use native.Mathlib.Omega.{arith}
-use borrow.Author.Needs.{needs}
 use borrow.Author.Tests.{ltb-true, ltb-false}
 use lib.ListN.{length, take}
 use Rattle.binar.specs.Bits.{_⊕_, dot}
@@ -17,7 +16,7 @@ use Rattle.residue.specs.Residue.{form}
 use Rattle.triangular.specs.declared.Ending.the-variants.{Found, Failed, Spent}
 use Rattle.triangular.specs.Search.{found, ended}
 use Rattle.search.specs.inner.Levels.{foundIn, gramOf}
-use Rattle.triangular.proofs.Budgets.{says-found, says-failed, says-spent, space-empty, space-alternating, space-begun, at-end, at-stop}
+use Rattle.triangular.proofs.Budgets.{says-found, says-failed, says-spent, space-empty, space-begun, at-end, at-stop}
 use Rattle.search.proofs.Drawing.{ones-last, next-is, next-column, next-drawn}
 use Rattle.search.proofs.Grams.{gram-self}
 use Rattle.search.proofs.Levels.{levels-least, front-get, found-none}
@@ -28,7 +27,7 @@ use Rattle.search.proofs.+try_draw+try_space.Proof.Claims.{try-space-at
 -- the coefficients that come next
 module _ (t : ℕ) (c : try-space-lts.After-next (space-claims t) (try-space-at t) try-space.Post try-space-Inv-loop try-space-μ-loop) where
   abbrev pub begun : try-space-lts.Start (space-claims t) (try-space-at t) try-space.Post try-space-Inv-loop try-space-μ-loop
-  begun = c .before .before .before .before .before .before .before .before .before .before .before .before .before .before .before .before
+  begun = c .before .before .before .before .before .before .before .before .before .before .before .before .before
 
   abbrev pub last : ℕ
   last = val (c .before .before .before .before .before .low-ones .result)
@@ -37,7 +36,7 @@ module _ (t : ℕ) (c : try-space-lts.After-next (space-claims t) (try-space-at 
   before = val (c .before .before .before .loop .c)
 
   pub ahead : val (c .before .before .before .loop .c) < val (c .before .before .before .before .before .low-ones .result)
-  ahead = ltb-true before last (sym (c .before .before .less .ensures) ∙ c .before .if3 .taken)
+  ahead = ltb-true before last (sym (c .before .before .less .ensures) ∙ c .before .if2 .taken)
 
   pub next-value : val (c .next .result) ≡ val (c .before .before .before .loop .c) + 1
   next-value = next-is (begun .args .d) last before (val (c .next .result)) (begun .pre .1 .0) (c .before .before .before .before .before .low-ones .ensures) ahead (c .next .ensures)
@@ -51,28 +50,28 @@ module _ (t : ℕ) (c : try-space-lts.After-next (space-claims t) (try-space-at 
 -- the members and the Gram rows, and these with their sums behind them, as the draws begin
 module _ (t : ℕ) (c : try-space-lts.After-low-ones (space-claims t) (try-space-at t) try-space.Post try-space-Inv-loop try-space-μ-loop) where
   abbrev pub members : List ℕ
-  members = take (c .before .before .before .before .before .before .before .before .before .before .before .args .d) (rowsIn (c .before .before .before .before .before .before .before .before .before .before .before .args .basis .now))
+  members = take (c .before .before .before .before .before .before .before .before .args .d) (rowsIn (c .before .before .before .before .before .before .before .before .args .basis .now))
 
   abbrev pub summed : List ℕ
   summed = rowsIn (c .before .before .before .sums .last .0)
 
-  pub fit-in : (E : List ℕ) → gramOf E members ≡ take (c .before .before .before .before .before .before .before .before .before .before .before .args .d) (rowsIn (c .before .before .before .before .before .before .before .before .before .before .before .args .gram .now)) → gramOf E members ≡ take (c .before .before .before .before .before .before .before .before .before .before .before .args .d) summed
+  pub fit-in : (E : List ℕ) → gramOf E members ≡ take (c .before .before .before .before .before .before .before .before .args .d) (rowsIn (c .before .before .before .before .before .before .before .before .args .gram .now)) → gramOf E members ≡ take (c .before .before .before .before .before .before .before .before .args .d) summed
   fit-in E e = e ∙ sym (c .before .before .before .sums .ensures .0)
 
-  pub fit-out : (E : List ℕ) → gramOf E members ≡ take (c .before .before .before .before .before .before .before .before .before .before .before .args .d) summed → gramOf E members ≡ take (c .before .before .before .before .before .before .before .before .before .before .before .args .d) (rowsIn (c .before .before .before .before .before .before .before .before .before .before .before .args .gram .now))
+  pub fit-out : (E : List ℕ) → gramOf E members ≡ take (c .before .before .before .before .before .before .before .before .args .d) summed → gramOf E members ≡ take (c .before .before .before .before .before .before .before .before .args .d) (rowsIn (c .before .before .before .before .before .before .before .before .args .gram .now))
   fit-out E e = e ∙ c .before .before .before .sums .ensures .0
 
-  pub summed-long : length (c .before .before .before .sums .last .0) ≡ length (c .before .before .before .before .before .before .before .before .before .before .before .args .gram .now)
-  summed-long = search needs
+  pub summed-long : length (c .before .before .before .sums .last .0) ≡ length (c .before .before .before .before .before .before .before .before .args .gram .now)
+  summed-long = c .before .before .before .sums .kept .0
 
 -- the sum of the Gram rows of the next coefficients
 module _ (t : ℕ) (c : try-space-lts.After-sum (space-claims t) (try-space-at t) try-space.Post try-space-Inv-loop try-space-μ-loop) where
-  at-column : c .before .before .lowest .result < c .before .before .before .before .before .before .before .before .before .before .before .before .before .before .before .before .before .before .before .before .before .args .d
+  at-column : c .before .before .lowest .result < c .before .before .before .before .before .before .before .before .before .before .before .before .before .before .before .before .before .before .args .d
   at-column = column t (c .before .before .before .before .before) (c .before .before .lowest .result) (c .before .before .lowest .ensures)
 
-  pub sum-is : val (c .sum .result) ≡ times (val (c .before .before .before .before .before .next .result)) (take (c .before .before .before .before .before .before .before .before .before .before .before .before .before .before .before .before .before .before .before .before .before .args .d) (summed t (c .before .before .before .before .before .before .before .before .before .before)))
+  pub sum-is : val (c .sum .result) ≡ times (val (c .before .before .before .before .before .next .result)) (take (c .before .before .before .before .before .before .before .before .before .before .before .before .before .before .before .before .before .before .args .d) (summed t (c .before .before .before .before .before .before .before .before .before .before)))
   sum-is =
-      let d = c .before .before .before .before .before .before .before .before .before .before .before .before .before .before .before .before .before .before .before .before .before .args .d in
+      let d = c .before .before .before .before .before .before .before .before .before .before .before .before .before .before .before .before .before .before .args .d in
       let low = c .before .before .lowest in
       let at = c .before .before .before .before .before .before .before .before .loop in
       let G = summed t (c .before .before .before .before .before .before .before .before .before .before) in
@@ -82,9 +81,9 @@ module _ (t : ℕ) (c : try-space-lts.After-sum (space-claims t) (try-space-at t
       ∙ ap (times (2 ^ suc (low .result) - 1)) (sym (c .before .before .before .before .before .before .before .before .before .before .before .before .before .sums .ensures .0)))
 
 -- the draw tested
-module _ (t : ℕ) (c : try-space-lts.After-dot (space-claims t) (try-space-at t) try-space.Post try-space-Inv-loop try-space-μ-loop) (E : List ℕ) (fit : gramOf E (members t (c .before .before .before .before .before .before .before .before .before .before .before)) ≡ take (c .before .before .before .before .before .before .before .before .before .before .before .before .before .before .before .before .before .before .before .before .before .before .args .d) (summed t (c .before .before .before .before .before .before .before .before .before .before .before))) where
+module _ (t : ℕ) (c : try-space-lts.After-dot (space-claims t) (try-space-at t) try-space.Post try-space-Inv-loop try-space-μ-loop) (E : List ℕ) (fit : gramOf E (members t (c .before .before .before .before .before .before .before .before .before .before .before)) ≡ take (c .before .before .before .before .before .before .before .before .before .before .before .before .before .before .before .before .before .before .before .args .d) (summed t (c .before .before .before .before .before .before .before .before .before .before .before))) where
   pub tested : (let p = times (val (c .before .before .before .before .before .before .next .result)) (members t (c .before .before .before .before .before .before .before .before .before .before .before)) in form E p p ≡ c .dot .result)
-  tested = gram-self E (members t (c .before .before .before .before .before .before .before .before .before .before .before)) (take (c .before .before .before .before .before .before .before .before .before .before .before .before .before .before .before .before .before .before .before .before .before .before .args .d) (summed t (c .before .before .before .before .before .before .before .before .before .before .before))) fit (val (c .before .before .before .before .before .before .next .result)) ∙ ap (dot (val (c .before .before .before .before .before .before .next .result))) (sym (sum-is t (c .before))) ∙ sym (c .dot .ensures)
+  tested = gram-self E (members t (c .before .before .before .before .before .before .before .before .before .before .before)) (take (c .before .before .before .before .before .before .before .before .before .before .before .before .before .before .before .before .before .before .before .args .d) (summed t (c .before .before .before .before .before .before .before .before .before .before .before))) fit (val (c .before .before .before .before .before .before .next .result)) ∙ ap (dot (val (c .before .before .before .before .before .before .next .result))) (sym (sum-is t (c .before))) ∙ sym (c .dot .ensures)
 
 -- ---- before the draws
 
@@ -97,63 +96,49 @@ try-space-returns t c =
           ∙ space-empty (form E) (s .budget) (s .looks) (take (s .d) (rowsIn (s .basis .now))) (s .d) (c .if1 .taken) (pre .3),
     )
 
-pub try-space-is-alternating-requires : (t : ℕ) → try-space-lts.Need-is-alternating-requires (space-claims t) (try-space-at t) try-space.Post try-space-Inv-loop try-space-μ-loop
-try-space-is-alternating-requires t c κs =
-    let s = c .before .before .before .before in
-    (s .pre .1 .0, omega (arith, levels-least (s .args .d), s .pre .1 .2))
-
-pub try-space-returns-2 : (t : ℕ) → try-space-lts.Need-returns-2 (space-claims t) (try-space-at t) try-space.Post try-space-Inv-loop try-space-μ-loop
-try-space-returns-2 t c =
-    let s = c .before .before .before .before .before .before .args in
-    let pre = c .before .before .before .before .before .before .pre .1 in
-    let B = take (s .d) (rowsIn (s .basis .now)) in (
-      pre .3,
-      λ E e. says-failed Failed (s .looks) (foundIn (s .d) (rowsIn (s .basis .now))) refl ∙ space-alternating (form E) (s .budget) (s .looks) B (s .d) (pos-of-ne-zero (c .before .before .before .if1 .left)) (sym (c .before .is-alternating .ensures E B e) ∙ c .if2 .taken) (pre .3),
-    )
-
 pub try-space-sums-requires : (t : ℕ) → try-space-lts.Need-sums-requires (space-claims t) (try-space-at t) try-space.Post try-space-Inv-loop try-space-μ-loop
 try-space-sums-requires t c κs =
-    let s = c .before .before .before .before .before .before .before in
+    let s = c .before .before .before .before in
     (s .pre .1 .0, omega (arith, levels-least (s .args .d), s .pre .1 .2))
 
 pub try-space-loop-holds : (t : ℕ) → try-space-lts.Need-loop-holds (space-claims t) (try-space-at t) try-space.Post try-space-Inv-loop try-space-μ-loop
 try-space-loop-holds t c =
-    let s = c .before .before .before .before .before .before .before .before .before .before .before .before .args in
+    let s = c .before .before .before .before .before .before .before .before .before .args in
     let lo = c .before in
     let z = c .zero .ensures in
     let B = members t lo in
     let G = take (s .d) (summed t lo) in (
       omega (arith, z),
-      c .before .before .before .before .before .before .before .before .before .before .before .before .pre .1 .3,
+      c .before .before .before .before .before .before .before .before .before .pre .1 .3,
       refl,
       refl,
       refl,
       refl,
       z ∙ sym (ap (λ x. times x G) z ∙ times-zero G),
       λ E e.
-          space-begun (form E) (s .budget) (s .looks) B (s .d) (val (lo .low-ones .result)) (val (c .zero .result)) (ones-last (s .d) (val (lo .low-ones .result)) (c .before .before .before .before .before .before .before .before .before .before .before .before .pre .1 .0) (lo .low-ones .ensures)) z
-          (pos-of-ne-zero (c .before .before .before .before .before .before .before .before .before .if1 .left)) (sym (c .before .before .before .before .before .before .before .is-alternating .ensures E B (fit-out t lo E e)) ∙ c .before .before .before .before .before .before .if2 .left),
+          space-begun (form E) (s .budget) (s .looks) B (s .d) (val (lo .low-ones .result)) (val (c .zero .result)) (ones-last (s .d) (val (lo .low-ones .result)) (c .before .before .before .before .before .before .before .before .before .pre .1 .0) (lo .low-ones .ensures)) z
+          (pos-of-ne-zero (c .before .before .before .before .before .before .if1 .left)) (c .before .before .before .before .before .before .before .before .before .pre .1 .4 E (fit-out t lo E e)),
     )
 
-pub try-space-returns-5 : (t : ℕ) → try-space-lts.Need-returns-5 (space-claims t) (try-space-at t) try-space.Post try-space-Inv-loop try-space-μ-loop
-try-space-returns-5 t c =
+pub try-space-returns-4 : (t : ℕ) → try-space-lts.Need-returns-4 (space-claims t) (try-space-at t) try-space.Post try-space-Inv-loop try-space-μ-loop
+try-space-returns-4 t c =
     let at = c .before .before .loop in
     let lo = c .before .before .before .before in
-    let s = c .before .before .before .before .before .before .before .before .before .before .before .before .before .before .before .args in (
+    let s = c .before .before .before .before .before .before .before .before .before .before .before .before .args in (
       at .inv .1,
       λ E e.
           says-failed Failed (at .spent) _ refl ∙ at-end (form E) (s .budget) (at .spent) (members t lo) (s .d - 1) (val (lo .low-ones .result)) (val (at .c)) _ (at .inv .7 E (fit-in t lo E e))
-          (ltb-false (val (at .c)) (val (lo .low-ones .result)) (sym (c .before .less .ensures) ∙ c .if3 .left)) (at .inv .1),
+          (ltb-false (val (at .c)) (val (lo .low-ones .result)) (sym (c .before .less .ensures) ∙ c .if2 .left)) (at .inv .1),
     )
 
-pub try-space-returns-3 : (t : ℕ) → try-space-lts.Need-returns-3 (space-claims t) (try-space-at t) try-space.Post try-space-Inv-loop try-space-μ-loop
-try-space-returns-3 t c =
+pub try-space-returns-2 : (t : ℕ) → try-space-lts.Need-returns-2 (space-claims t) (try-space-at t) try-space.Post try-space-Inv-loop try-space-μ-loop
+try-space-returns-2 t c =
     let at = c .before .before .before .before .loop in
     let lo = c .before .before .before .before .before .before in
-    let s = c .before .before .before .before .before .before .before .before .before .before .before .before .before .before .before .before .before .args in (
+    let s = c .before .before .before .before .before .before .before .before .before .before .before .before .before .before .args in (
       at .inv .1,
-      λ E e. says-spent Spent (at .spent) _ refl ∙ at-stop (form E) (s .budget) (at .spent) (members t lo) (s .d - 1) (val (lo .low-ones .result)) (val (at .c)) _ (at .inv .7 E (fit-in t lo E e)) (ahead t (c .before)) (c .if4 .taken),
+      λ E e. says-spent Spent (at .spent) _ refl ∙ at-stop (form E) (s .budget) (at .spent) (members t lo) (s .d - 1) (val (lo .low-ones .result)) (val (at .c)) _ (at .inv .7 E (fit-in t lo E e)) (ahead t (c .before)) (c .if3 .taken),
     )
 
 pub try-space-add-row : (t : ℕ) → try-space-lts.Need-add-row (space-claims t) (try-space-at t) try-space.Post try-space-Inv-loop try-space-μ-loop
-try-space-add-row t c = omega (arith, column t (c .before .before .before) (c .lowest .result) (c .lowest .ensures), c .before .before .before .before .before .before .before .before .before .before .before .before .before .before .before .before .before .before .before .pre .1 .0)
+try-space-add-row t c = omega (arith, column t (c .before .before .before) (c .lowest .result) (c .lowest .ensures), c .before .before .before .before .before .before .before .before .before .before .before .before .before .before .before .before .pre .1 .0)

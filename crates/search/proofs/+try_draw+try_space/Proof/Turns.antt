@@ -40,26 +40,26 @@ module _ (t : ℕ) (c : try-space-lts.After-next (space-claims t) (try-space-at 
   vector = ap (λ x. times x (members t (c .before .before .before .before .before))) (next-value t c)
 
   onward : (E : List ℕ) (k : ℕ) (A : Verdict)
-      → budgeted (c .before .before .before .before .before .before .before .before .before .before .before .before .before .before .before .before .args .budget) (draws (form E) (searchOf (form E) (c .before .before .before .before .before .before .before .before .before .before .before .before .before .before .before .before .args .d - 1)) (members t (c .before .before .before .before .before)) (last t c - (val (c .before .before .before .loop .c) + 1)) (val (c .before .before .before .loop .c) + 1 + 1) k) ≡ A
-      → budgeted (c .before .before .before .before .before .before .before .before .before .before .before .before .before .before .before .before .args .budget) (draws (form E) (searchOf (form E) (c .before .before .before .before .before .before .before .before .before .before .before .before .before .before .before .before .args .d - 1)) (members t (c .before .before .before .before .before)) (last t c - val (c .next .result)) (val (c .next .result) + 1) k) ≡ A
-  onward E k A e = ap (λ x. budgeted (c .before .before .before .before .before .before .before .before .before .before .before .before .before .before .before .before .args .budget) (draws (form E) (searchOf (form E) (c .before .before .before .before .before .before .before .before .before .before .before .before .before .before .before .before .args .d - 1)) (members t (c .before .before .before .before .before)) (last t c - x) (x + 1) k)) (next-value t c) ∙ e
+      → budgeted (c .before .before .before .before .before .before .before .before .before .before .before .before .before .args .budget) (draws (form E) (searchOf (form E) (c .before .before .before .before .before .before .before .before .before .before .before .before .before .args .d - 1)) (members t (c .before .before .before .before .before)) (last t c - (val (c .before .before .before .loop .c) + 1)) (val (c .before .before .before .loop .c) + 1 + 1) k) ≡ A
+      → budgeted (c .before .before .before .before .before .before .before .before .before .before .before .before .before .args .budget) (draws (form E) (searchOf (form E) (c .before .before .before .before .before .before .before .before .before .before .before .before .before .args .d - 1)) (members t (c .before .before .before .before .before)) (last t c - val (c .next .result)) (val (c .next .result) + 1) k) ≡ A
+  onward E k A e = ap (λ x. budgeted (c .before .before .before .before .before .before .before .before .before .before .before .before .before .args .budget) (draws (form E) (searchOf (form E) (c .before .before .before .before .before .before .before .before .before .before .before .before .before .args .d - 1)) (members t (c .before .before .before .before .before)) (last t c - x) (x + 1) k)) (next-value t c) ∙ e
 
 -- what a draw came to
-module _ (t : ℕ) (c : try-space-lts.After-try-draw (space-claims t) (try-space-at t) try-space.Post try-space-Inv-loop try-space-μ-loop) (E : List ℕ) (fit : gramOf E (members t (c .before .before .before .before .before .before .before .before .before .before .before .before .before .before .before)) ≡ take (c .before .before .before .before .before .before .before .before .before .before .before .before .before .before .before .before .before .before .before .before .before .before .before .before .before .before .args .d) (summed t (c .before .before .before .before .before .before .before .before .before .before .before .before .before .before .before))) where
-  came : verdictOf (c .try-draw .result .ending) (c .try-draw .result .looks) (foundIn (c .before .before .before .before .before .before .before .before .before .before .before .before .before .before .before .before .before .before .before .before .before .before .before .before .before .before .args .d) (rowsIn (c .try-draw .last .0)))
-      ≡ budgeted (c .before .before .before .before .before .before .before .before .before .before .before .before .before .before .before .before .before .before .before .before .before .before .before .before .before .before .args .budget) (afterRest (times (val (c .before .before .before .before .before .before .before .before .before .before .next .result)) (members t (c .before .before .before .before .before .before .before .before .before .before .before .before .before .before .before))) failed
-      (searchOf (form E) (c .before .before .before .before .before .before .before .before .before .before .before .before .before .before .before .before .before .before .before .before .before .before .before .before .before .before .args .d - 1) (complement (form E (times (val (c .before .before .before .before .before .before .before .before .before .before .next .result)) (members t (c .before .before .before .before .before .before .before .before .before .before .before .before .before .before .before)))) (members t (c .before .before .before .before .before .before .before .before .before .before .before .before .before .before .before))) (c .before .before .before .before .before .before .before .before .before .before .before .before .before .loop .spent + 1)))
+module _ (t : ℕ) (c : try-space-lts.After-try-draw (space-claims t) (try-space-at t) try-space.Post try-space-Inv-loop try-space-μ-loop) (E : List ℕ) (fit : gramOf E (members t (c .before .before .before .before .before .before .before .before .before .before .before .before .before .before .before)) ≡ take (c .before .before .before .before .before .before .before .before .before .before .before .before .before .before .before .before .before .before .before .before .before .before .before .args .d) (summed t (c .before .before .before .before .before .before .before .before .before .before .before .before .before .before .before))) where
+  came : verdictOf (c .try-draw .result .ending) (c .try-draw .result .looks) (foundIn (c .before .before .before .before .before .before .before .before .before .before .before .before .before .before .before .before .before .before .before .before .before .before .before .args .d) (rowsIn (c .try-draw .last .0)))
+      ≡ budgeted (c .before .before .before .before .before .before .before .before .before .before .before .before .before .before .before .before .before .before .before .before .before .before .before .args .budget) (afterRest (times (val (c .before .before .before .before .before .before .before .before .before .before .next .result)) (members t (c .before .before .before .before .before .before .before .before .before .before .before .before .before .before .before))) failed
+      (searchOf (form E) (c .before .before .before .before .before .before .before .before .before .before .before .before .before .before .before .before .before .before .before .before .before .before .before .args .d - 1) (complement (form E (times (val (c .before .before .before .before .before .before .before .before .before .before .next .result)) (members t (c .before .before .before .before .before .before .before .before .before .before .before .before .before .before .before)))) (members t (c .before .before .before .before .before .before .before .before .before .before .before .before .before .before .before))) (c .before .before .before .before .before .before .before .before .before .before .before .before .before .loop .spent + 1)))
   came =
-      let d = c .before .before .before .before .before .before .before .before .before .before .before .before .before .before .before .before .before .before .before .before .before .before .before .before .before .before .args .d in
+      let d = c .before .before .before .before .before .before .before .before .before .before .before .before .before .before .before .before .before .before .before .before .before .before .before .args .d in
       let at = c .before .before .before .before .before .before .before .before .before .before .before .before .before .loop in
       let o = c .try-draw in
       let same : take d (rowsIn (at .basis)) ≡ members t (c .before .before .before .before .before .before .before .before .before .before .before .before .before .before .before) = at .inv .4 in
       o .ensures .3 E (ap (gramOf E) same ∙ fit ∙ sym (front-less d (d + d) (rowsIn (at .gram)) (summed t (c .before .before .before .before .before .before .before .before .before .before .before .before .before .before .before)) (omega arith) (at .inv .5)))
-      ∙ ap (λ M. budgeted (c .before .before .before .before .before .before .before .before .before .before .before .before .before .before .before .before .before .before .before .before .before .before .before .before .before .before .args .budget) (afterRest (times (val (c .before .before .before .before .before .before .before .before .before .before .next .result)) M) failed (searchOf (form E) (d - 1) (complement (form E (times (val (c .before .before .before .before .before .before .before .before .before .before .next .result)) M)) M) (at .spent + 1)))) same
+      ∙ ap (λ M. budgeted (c .before .before .before .before .before .before .before .before .before .before .before .before .before .before .before .before .before .before .before .before .before .before .before .args .budget) (afterRest (times (val (c .before .before .before .before .before .before .before .before .before .before .next .result)) M) failed (searchOf (form E) (d - 1) (complement (form E (times (val (c .before .before .before .before .before .before .before .before .before .before .next .result)) M)) M) (at .spent + 1)))) same
 
 pub try-space-try-draw-requires : (t : ℕ) → try-space-lts.Need-try-draw-requires (space-claims t) (try-space-at t) try-space.Post try-space-Inv-loop try-space-μ-loop
 try-space-try-draw-requires t c κs =
-    let s = c .before .before .before .before .before .before .before .before .before .before .before .before .before .before .before .before .before .before .before .before .before .before .before .before .before in
+    let s = c .before .before .before .before .before .before .before .before .before .before .before .before .before .before .before .before .before .before .before .before .before .before in
     let at = c .before .before .before .before .before .before .before .before .before .before .before .before .loop in
     let x = c .before .before .before .before in
     let d = s .args .d in
@@ -67,13 +67,13 @@ try-space-try-draw-requires t c κs =
     let g-same = lent-same (at .gram) (s .args .gram .now) (at .inv .3 ∙ summed-long t (c .before .before .before .before .before .before .before .before .before .before .before .before .before .before)) in (
       omega (arith, s .pre .0),
       (
-        pos-of-ne-zero (c .before .before .before .before .before .before .before .before .before .before .before .before .before .before .before .before .before .before .before .before .before .before .if1 .left),
+        pos-of-ne-zero (c .before .before .before .before .before .before .before .before .before .before .before .before .before .before .before .before .before .before .before .if1 .left),
         s .pre .1 .0,
         omega (arith, b-same, s .pre .1 .1),
         omega (arith, g-same, s .pre .1 .2),
-        omega (arith, at .inv .1, c .before .before .before .before .before .before .before .before .if4 .left),
+        omega (arith, at .inv .1, c .before .before .before .before .before .before .before .before .if3 .left),
         sum-is t x ∙ ap (times (val (c .before .before .before .before .before .before .before .before .before .next .result))) (sym (front-less d (d + d) (rowsIn (at .gram)) (summed t (c .before .before .before .before .before .before .before .before .before .before .before .before .before .before)) (omega arith) (at .inv .5))),
-        sym (c .before .before .before .dot .ensures) ∙ c .before .before .if5 .taken,
+        sym (c .before .before .before .dot .ensures) ∙ c .before .before .if4 .taken,
       ),
     )
 
@@ -81,32 +81,32 @@ pub try-space-loop-again : (t : ℕ) → try-space-lts.Need-loop-again (space-cl
 try-space-loop-again t c =
     let at = c .before .before .before .before .before .before .before .before .before .before .before .before .before .before .before .before .before .before .before .loop in
     let next = c .before .before .before .before .before .before .before .before .before .before .before .before .before .before .before .before in
-    let s = c .before .before .before .before .before .before .before .before .before .before .before .before .before .before .before .before .before .before .before .before .before .before .before .before .before .before .before .before .before .before .before .before .args in
+    let s = c .before .before .before .before .before .before .before .before .before .before .before .before .before .before .before .before .before .before .before .before .before .before .before .before .before .before .before .before .before .args in
     let o = c .before .before .before .before .before .before .try-draw in (
       omega (arith, ahead t next, next-value t next),
       o .ensures .0,
-      search needs,
-      search needs,
+      o .kept .0 ∙ at .inv .2,
+      o .kept .1 .0 ∙ at .inv .3,
       o .ensures .1 ∙ at .inv .4,
       o .ensures .2 ∙ at .inv .5,
       sum-is t (c .before .before .before .before .before .before .before .before .before .before .before),
       λ E e. onward t next E (o .result .looks) _
           (at-failed (form E) (s .budget) (at .spent) (members t (c .before .before .before .before .before .before .before .before .before .before .before .before .before .before .before .before .before .before .before .before .before)) (s .d - 1) (val (c .before .before .before .before .before .before .before .before .before .before .before .before .before .before .before .before .before .before .before .before .before .low-ones .result)) (val (at .c)) _ (at .inv .7 E e) (ahead t next)
-          (times (val (next .next .result)) (members t (c .before .before .before .before .before .before .before .before .before .before .before .before .before .before .before .before .before .before .before .before .before))) (vector t next) (tested t (c .before .before .before .before .before .before .before .before .before .before) E e ∙ c .before .before .before .before .before .before .before .before .before .if5 .taken) (o .result .ending) (o .result .looks) (foundIn (s .d) (rowsIn (o .last .0)))
+          (times (val (next .next .result)) (members t (c .before .before .before .before .before .before .before .before .before .before .before .before .before .before .before .before .before .before .before .before .before))) (vector t next) (tested t (c .before .before .before .before .before .before .before .before .before .before) E e ∙ c .before .before .before .before .before .before .before .before .before .if4 .taken) (o .result .ending) (o .result .looks) (foundIn (s .d) (rowsIn (o .last .0)))
           (came t (c .before .before .before .before .before .before) E e) (search (needs, c .enum-told .given))),
     )
 
-pub try-space-returns-4 : (t : ℕ) → try-space-lts.Need-returns-4 (space-claims t) (try-space-at t) try-space.Post try-space-Inv-loop try-space-μ-loop
-try-space-returns-4 t c =
+pub try-space-returns-3 : (t : ℕ) → try-space-lts.Need-returns-3 (space-claims t) (try-space-at t) try-space.Post try-space-Inv-loop try-space-μ-loop
+try-space-returns-3 t c =
     let at = c .before .before .before .before .before .before .before .before .before .before .before .before .before .before .before .before .before .before .loop in
     let next = c .before .before .before .before .before .before .before .before .before .before .before .before .before .before .before in
-    let s = c .before .before .before .before .before .before .before .before .before .before .before .before .before .before .before .before .before .before .before .before .before .before .before .before .before .before .before .before .before .before .before .args in
+    let s = c .before .before .before .before .before .before .before .before .before .before .before .before .before .before .before .before .before .before .before .before .before .before .before .before .before .before .before .before .args in
     let o = c .before .before .before .before .before .try-draw in (
       o .ensures .0,
       λ E e₀.
           let e = fit-in t (c .before .before .before .before .before .before .before .before .before .before .before .before .before .before .before .before .before .before .before .before) E e₀ in
           at-kept (form E) (s .budget) (at .spent) (members t (c .before .before .before .before .before .before .before .before .before .before .before .before .before .before .before .before .before .before .before .before)) (s .d - 1) (val (c .before .before .before .before .before .before .before .before .before .before .before .before .before .before .before .before .before .before .before .before .low-ones .result)) (val (at .c)) _ (at .inv .7 E e) (ahead t next)
-          (times (val (next .next .result)) (members t (c .before .before .before .before .before .before .before .before .before .before .before .before .before .before .before .before .before .before .before .before))) (vector t next) (tested t (c .before .before .before .before .before .before .before .before .before) E e ∙ c .before .before .before .before .before .before .before .before .if5 .taken) (o .result .ending) (o .result .looks) (foundIn (s .d) (rowsIn (o .last .0)))
+          (times (val (next .next .result)) (members t (c .before .before .before .before .before .before .before .before .before .before .before .before .before .before .before .before .before .before .before .before))) (vector t next) (tested t (c .before .before .before .before .before .before .before .before .before) E e ∙ c .before .before .before .before .before .before .before .before .if4 .taken) (o .result .ending) (o .result .looks) (foundIn (s .d) (rowsIn (o .last .0)))
           (came t (c .before .before .before .before .before) E e) (not-failed (o .result .ending) (c .match .keys2)),
     )
 
@@ -114,9 +114,9 @@ pub try-space-loop-again-2 : (t : ℕ) → try-space-lts.Need-loop-again-2 (spac
 try-space-loop-again-2 t c =
     let at = c .before .before .before .before .before .before .before .before .before .before .loop in
     let next = c .before .before .before .before .before .before .before in
-    let s = c .before .before .before .before .before .before .before .before .before .before .before .before .before .before .before .before .before .before .before .before .before .before .before .args in (
+    let s = c .before .before .before .before .before .before .before .before .before .before .before .before .before .before .before .before .before .before .before .before .args in (
       omega (arith, ahead t next, next-value t next),
-      omega (arith, at .inv .1, c .before .before .before .before .before .before .if4 .left),
+      omega (arith, at .inv .1, c .before .before .before .before .before .before .if3 .left),
       at .inv .2,
       at .inv .3,
       at .inv .4,
@@ -124,7 +124,7 @@ try-space-loop-again-2 t c =
       sum-is t (c .before .before),
       λ E e. onward t next E (at .spent + 1) _
           (at-left (form E) (s .budget) (at .spent) (members t (c .before .before .before .before .before .before .before .before .before .before .before .before)) (s .d - 1) (val (c .before .before .before .before .before .before .before .before .before .before .before .before .low-ones .result)) (val (at .c)) _ (at .inv .7 E e) (ahead t next)
-          (times (val (next .next .result)) (members t (c .before .before .before .before .before .before .before .before .before .before .before .before))) (vector t next) (tested t (c .before) E e ∙ c .if5 .left)),
+          (times (val (next .next .result)) (members t (c .before .before .before .before .before .before .before .before .before .before .before .before))) (vector t next) (tested t (c .before) E e ∙ c .if4 .left)),
     )
 
 pub try-space-loop-less : (t : ℕ) → try-space-lts.Need-loop-less (space-claims t) (try-space-at t) try-space.Post try-space-Inv-loop try-space-μ-loop
