@@ -16,6 +16,15 @@ ghost use Rattle.transvection_exact.specs.Answers.{Shortest, Exact};
 ghost use Rattle.gates.specs.Sequences.{sequenceTurns, gatesReply};
 ghost use Rattle.cabi.specs.Lent.{lentNumber, readFigures};
 
+// An answer's value put into a lent number; a refusal leaves it as it was.
+fn tell(number: u64, value: u64, lent: &mut u64)
+    ensures { λ _. ⌜ now (lent .exit) ≡ lentNumber number value (now (lent .entry)) ⌝ }
+{
+    if number == 0 {
+        *lent = value;
+    }
+}
+
 // The minimal list of an action, and the looks of its search.
 #[no_mangle]
 pub extern "C" fn turnlist_minimal(
@@ -36,10 +45,8 @@ pub extern "C" fn turnlist_minimal(
 {
     let answer = transvection_exact::clifford_to_transvections_minimal(n, rows, budget, out);
     let least = transvection_exact::figures_of(answer);
-    if least.number == 0 {
-        *count = least.count;
-        *looks = least.looks;
-    }
+    tell(least.number, least.count, count);
+    tell(least.number, least.looks, looks);
     least.number
 }
 
@@ -54,9 +61,7 @@ pub extern "C" fn turnlist_greedy(n: u64, rows: &[u64], out: &mut [u64], count: 
 {
     let answer = transvection::clifford_to_transvections(n, rows, out);
     let greedy = questions::figures_of(answer);
-    if greedy.number == 0 {
-        *count = greedy.count;
-    }
+    tell(greedy.number, greedy.count, count);
     greedy.number
 }
 
@@ -78,9 +83,7 @@ pub extern "C" fn turnlist_fixed_space(
 {
     let answer = fixed_space::clifford_fixed_space(n, rows, out);
     let fixed = questions::figures_of(answer);
-    if fixed.number == 0 {
-        *count = fixed.count;
-    }
+    tell(fixed.number, fixed.count, count);
     fixed.number
 }
 
@@ -94,9 +97,7 @@ pub extern "C" fn turnlist_rebuild(n: u64, vectors: &[u64], out: &mut [u64], cou
 {
     let answer = rebuild::rebuild(n, vectors, out);
     let product = rebuild::figures_of(answer);
-    if product.number == 0 {
-        *count = product.count;
-    }
+    tell(product.number, product.count, count);
     product.number
 }
 
@@ -118,9 +119,7 @@ pub extern "C" fn turnlist_shorter(
 {
     let answer = shorter::choose(n, rows, first, second);
     let shorter = shorter::chosen_of(answer);
-    if shorter.number == 0 {
-        *chosen = shorter.list;
-    }
+    tell(shorter.number, shorter.list, chosen);
     shorter.number
 }
 
@@ -134,8 +133,6 @@ pub extern "C" fn turnlist_gates(n: u64, gates: &[u8], out: &mut [u64], count: &
 {
     let answer = gates::gate_action(n, gates, out);
     let action = gates::figures_of(answer);
-    if action.number == 0 {
-        *count = action.count;
-    }
+    tell(action.number, action.count, count);
     action.number
 }

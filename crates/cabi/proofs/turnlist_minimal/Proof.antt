@@ -1,10 +1,7 @@
--- `turnlist_minimal` answers as `clifford_to_transvections_minimal`, and leaves a refused call's numbers as they were, by `lent-shortest`.
+-- `turnlist_minimal` answers as `clifford_to_transvections_minimal`, and leaves a refused call's numbers as they were, by `lent-drawn`.
 -- Assumes nothing.
-use mathlib.Core.Path.{refl, sym, subst}
-use Rattle.questions.proofs.Answered.{Meets}
 use Rattle.transvection_exact.specs.Minimal.{minimalReply}
-use Rattle.transvection_exact.proofs.Answered.{Promised}
-use Rattle.cabi.proofs.Lent.{lent-shortest}
+use Rattle.cabi.proofs.Lent.{lent-drawn}
 use borrow.Author.Needs.{needs}
 use Rattle.cabi.proofs.turnlist_minimal.Statement.{statement}
 use Rattle.cabi.proofs.turnlist_minimal.Tie as tie
@@ -15,30 +12,22 @@ clifford-to-transvections-minimal-requires c κs = search needs
 figures-of-requires : tie.Need-figures-of-requires
 figures-of-requires c κs = search needs
 
--- what the call promises, of its figures
-met : (c : tie.After-figures-of) → let s = c .before .before .before .before .before .before .before .args in
-    Meets (Promised (s .n) (s .rows .now) (s .budget) (s .out .now)) (minimalReply (s .n) (s .rows .now) (s .budget) (s .out .now)) (c .before .before .before .clifford-to-transvections-minimal .last .1 .1 .1 .0) (c .figures-of .result)
-met c =
-    let s = c .before .before .before .before .before .before .before .args in
-    subst (Meets (Promised (s .n) (s .rows .now) (s .budget) (s .out .now)) (minimalReply (s .n) (s .rows .now) (s .budget) (s .out .now)) (c .before .before .before .clifford-to-transvections-minimal .last .1 .1 .1 .0)) (sym (c .figures-of .ensures)) (c .before .before .before .clifford-to-transvections-minimal .ensures)
+tell-requires : tie.Need-tell-requires
+tell-requires c κs = search needs
+
+tell-requires-2 : tie.Need-tell-requires-2
+tell-requires-2 c κs = search needs
 
 same-length : tie.Need-same-length
 same-length c = search needs
 
 returns : tie.Need-returns
 returns c =
-    let s = c .before .before .before .before .before .before .before .before .before .args in
-    let t = c .before .before .figures-of .result in
-    lent-shortest (minimalReply (s .n) (s .rows .now) (s .budget) (s .out .now)) (c .before .before .before .before .before .clifford-to-transvections-minimal .last .1 .1 .1 .0) t (s .count .now) (t .count) (λ z. refl, λ h. absurd (h (c .if1 .taken))) (s .looks .now) (t .looks) (λ z. refl, λ h. absurd (h (c .if1 .taken))) (s .n) (s .rows .now) (s .budget) (s .out .now) (met (c .before .before))
-
-same-length-2 : tie.Need-same-length-2
-same-length-2 c = search needs
-
-returns-2 : tie.Need-returns-2
-returns-2 c =
-    let s = c .before .before .before .before .before .before .before .before .before .args in
-    let t = c .before .before .figures-of .result in
-    lent-shortest (minimalReply (s .n) (s .rows .now) (s .budget) (s .out .now)) (c .before .before .before .before .before .clifford-to-transvections-minimal .last .1 .1 .1 .0) t (s .count .now) (s .count .now) (λ z. absurd (c .if1 .left z), λ h. refl) (s .looks .now) (s .looks .now) (λ z. absurd (c .if1 .left z), λ h. refl) (s .n) (s .rows .now) (s .budget) (s .out .now) (met (c .before .before))
+    let s = c .before .before .before .before .before .before .before .before .before .before .before .args in
+    let answer = c .before .before .before .before .before .before .before .clifford-to-transvections-minimal in
+    let figures = c .before .before .before .before .figures-of in
+    let counted = c .before .before .tell in
+    lent-drawn (s .n) (s .rows .now) (s .budget) (s .out .now) (minimalReply (s .n) (s .rows .now) (s .budget) (s .out .now)) (answer .last .1 .1 .1 .0) (figures .result) _ (figures .ensures) (s .count .now) (counted .last .1 .1 .0) (counted .ensures) (s .looks .now) (c .tell2 .last .1 .1 .0) (c .tell2 .ensures) (answer .ensures)
 
 pub turnlist-minimal-spec : {M : Type 1} → statement M
 turnlist-minimal-spec =
@@ -46,7 +35,7 @@ turnlist-minimal-spec =
     (tie.spec
     clifford-to-transvections-minimal-requires
     figures-of-requires
+    tell-requires
+    tell-requires-2
     same-length
-    returns
-    same-length-2
-    returns-2)
+    returns)
