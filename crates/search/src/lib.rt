@@ -277,46 +277,6 @@ fn searched(
     }
 }
 
-fn within_8(core: &[u64], k: usize, budget: u64, list: &mut [u64]) -> Ended
-    requires { ⌜ (k ≤ 8) × (k ≡ length (coreIn (now core))) ⌝ }
-    ensures answered { λ r. ⌜ (let v = budgeted budget (search (form (coreIn (now (core .entry)))) (length (coreIn (now (core .entry)))) (units (length (coreIn (now (core .entry))))) 0) in verdictOf (r .ending) (r .looks) (basisFound v) ≡ v) ⌝ }
-    ensures left { λ r. ⌜ rowsIn (now (list .exit)) ≡ over (basisFound (budgeted budget (search (form (coreIn (now (core .entry)))) (length (coreIn (now (core .entry)))) (units (length (coreIn (now (core .entry))))) 0))) (rowsIn (now (list .entry))) ⌝ }
-{
-    let mut basis = [0u64; 72];
-    let mut gram = [0u64; 72];
-    searched(&mut basis, &mut gram, core, k, budget, list)
-}
-
-fn within_16(core: &[u64], k: usize, budget: u64, list: &mut [u64]) -> Ended
-    requires { ⌜ (k ≤ 16) × (k ≡ length (coreIn (now core))) ⌝ }
-    ensures answered { λ r. ⌜ (let v = budgeted budget (search (form (coreIn (now (core .entry)))) (length (coreIn (now (core .entry)))) (units (length (coreIn (now (core .entry))))) 0) in verdictOf (r .ending) (r .looks) (basisFound v) ≡ v) ⌝ }
-    ensures left { λ r. ⌜ rowsIn (now (list .exit)) ≡ over (basisFound (budgeted budget (search (form (coreIn (now (core .entry)))) (length (coreIn (now (core .entry)))) (units (length (coreIn (now (core .entry))))) 0))) (rowsIn (now (list .entry))) ⌝ }
-{
-    let mut basis = [0u64; 272];
-    let mut gram = [0u64; 272];
-    searched(&mut basis, &mut gram, core, k, budget, list)
-}
-
-fn within_32(core: &[u64], k: usize, budget: u64, list: &mut [u64]) -> Ended
-    requires { ⌜ (k ≤ 32) × (k ≡ length (coreIn (now core))) ⌝ }
-    ensures answered { λ r. ⌜ (let v = budgeted budget (search (form (coreIn (now (core .entry)))) (length (coreIn (now (core .entry)))) (units (length (coreIn (now (core .entry))))) 0) in verdictOf (r .ending) (r .looks) (basisFound v) ≡ v) ⌝ }
-    ensures left { λ r. ⌜ rowsIn (now (list .exit)) ≡ over (basisFound (budgeted budget (search (form (coreIn (now (core .entry)))) (length (coreIn (now (core .entry)))) (units (length (coreIn (now (core .entry))))) 0))) (rowsIn (now (list .entry))) ⌝ }
-{
-    let mut basis = [0u64; 1056];
-    let mut gram = [0u64; 1056];
-    searched(&mut basis, &mut gram, core, k, budget, list)
-}
-
-fn within_64(core: &[u64], k: usize, budget: u64, list: &mut [u64]) -> Ended
-    requires { ⌜ (k ≤ 64) × (k ≡ length (coreIn (now core))) ⌝ }
-    ensures answered { λ r. ⌜ (let v = budgeted budget (search (form (coreIn (now (core .entry)))) (length (coreIn (now (core .entry)))) (units (length (coreIn (now (core .entry))))) 0) in verdictOf (r .ending) (r .looks) (basisFound v) ≡ v) ⌝ }
-    ensures left { λ r. ⌜ rowsIn (now (list .exit)) ≡ over (basisFound (budgeted budget (search (form (coreIn (now (core .entry)))) (length (coreIn (now (core .entry)))) (units (length (coreIn (now (core .entry))))) 0))) (rowsIn (now (list .entry))) ⌝ }
-{
-    let mut basis = [0u64; 4160];
-    let mut gram = [0u64; 4160];
-    searched(&mut basis, &mut gram, core, k, budget, list)
-}
-
 // Looks for a basis that makes the core triangular, and puts what it finds over a lent list. Rows of the core past the columns of a row
 // are left out.
 pub fn congruence_triangularize(core: &[u64], budget: u64, list: &mut [u64]) -> Ended
@@ -325,13 +285,21 @@ pub fn congruence_triangularize(core: &[u64], budget: u64, list: &mut [u64]) -> 
 {
     let k = blocks::lesser(WIDTH, blocks::rows_in(core));
     if k <= 8 {
-        return within_8(core, k, budget, list);
+        let mut basis = [0u64; 72];
+        let mut gram = [0u64; 72];
+        return searched(&mut basis, &mut gram, core, k, budget, list);
     }
     if k <= 16 {
-        return within_16(core, k, budget, list);
+        let mut basis = [0u64; 272];
+        let mut gram = [0u64; 272];
+        return searched(&mut basis, &mut gram, core, k, budget, list);
     }
     if k <= 32 {
-        return within_32(core, k, budget, list);
+        let mut basis = [0u64; 1056];
+        let mut gram = [0u64; 1056];
+        return searched(&mut basis, &mut gram, core, k, budget, list);
     }
-    within_64(core, k, budget, list)
+    let mut basis = [0u64; 4160];
+    let mut gram = [0u64; 4160];
+    searched(&mut basis, &mut gram, core, k, budget, list)
 }
