@@ -62,3 +62,8 @@ over-end (r ∷ rows) [] zero e = refl
 over-end (r ∷ rows) [] (suc k) e = absurd (omega arith)
 over-end (r ∷ rows) (w ∷ out) zero e = absurd (omega arith)
 over-end (r ∷ rows) (w ∷ out) (suc k) e = ap (λ (m : List ℕ). r ∷ m) (over-end rows out k (omega arith))
+
+-- as many as there are
+pub over-same : (rows out : List ℕ) → length rows ≡ length out → over rows out ≡ rows
+over-same rows out e =
+    sym (over-end rows out (length rows) (omega arith)) ∙ over-whole 0 rows out (length rows) (le-refl (length rows)) (omega arith)

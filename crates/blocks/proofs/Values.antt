@@ -17,7 +17,7 @@ use Rattle.blocks.specs.declared.Block.{Block}
 use Rattle.blocks.specs.Blocks.{room, vals, rowsOf}
 use Rattle.blocks.specs.Matrices.{All}
 use Rattle.blocks.specs.inner.Lists.{without}
-use Rattle.blocks.proofs.Overs.{over-more, over-length, over-end}
+use Rattle.blocks.proofs.Overs.{over-more, over-end}
 use Rattle.blocks.specs.Words.{over, rowsOfWords, wordOf, wordsOfRows, laid}
 
 -- ---- values
@@ -67,12 +67,6 @@ rows-get b i h =
   where
     below : (n : ℕ) (l : List ℕ) → i < length (take n l) → i < n
     below n l k = omega (arith, k, length-take n l)
-
-take-set : (n : ℕ) (l : List ℕ) (i v : ℕ) → take n (set l i v) ≡ set (take n l) i v
-take-set zero l i v = refl
-take-set (suc n) [] i v = refl
-take-set (suc n) (x ∷ l) zero v = refl
-take-set (suc n) (x ∷ l) (suc i) v = ap (λ (m : List ℕ). x ∷ m) (take-set n l i v)
 
 -- a count by the length of what it counts
 pub take-counted : (n : ℕ) (l : List ℕ) → take (length (take n l)) l ≡ take n l
@@ -159,9 +153,6 @@ laid-over n rows out = refl
 -- as many rows laid as there are, or as there are words
 pub laid-end : (n : ℕ) (rows out : List ℕ) (k : ℕ) → k ≡ min (length rows) (length out) → take k (wordsOfRows n rows) ++ drop k out ≡ laid n rows out
 laid-end n rows out k e = over-end (wordsOfRows n rows) out k (e ∙ ap (λ (m : ℕ). min m (length out)) (sym (words-length n rows))) ∙ laid-over n rows out
-
-pub laid-length : (n : ℕ) (rows out : List ℕ) → length (laid n rows out) ≡ length out
-laid-length n rows out = ap length (sym (laid-over n rows out)) ∙ over-length (wordsOfRows n rows) out
 
 -- ---- rows of n qubits, for which a row has columns enough
 

@@ -3,8 +3,8 @@
 use binar::Row;
 ghost use mathlib.Core.Path.{_≡_};
 ghost use mathlib.Core.List.{[]};
-ghost use Prim.Native.Nat.{_+_, _<_, min};
-ghost use lib.ListN.{length, getD, set, take, drop};
+ghost use Prim.Native.Nat.{min};
+ghost use lib.ListN.{length, getD, set, take};
 ghost use Rattle.binar.specs.Rows.{val};
 ghost use Rattle.blocks.specs.Blocks.{room, rowsOf};
 ghost use Rattle.blocks.specs.Matrices.{times as timesOf, matmul};
@@ -39,34 +39,6 @@ pub fn empty() -> Block
         rows: [z; ROOM],
         count: 0,
     }
-}
-
-// The first k rows.
-pub fn first_rows(b: Block, k: usize) -> Block
-    ensures { λ r. ⌜ rowsOf r ≡ take k (rowsOf b) ⌝ }
-{
-    if k < b.count {
-        let mut n = b;
-        n.count = k;
-        n
-    } else {
-        b
-    }
-}
-
-// The rows from k on.
-pub fn rows_from(b: Block, k: usize) -> Block
-    ensures { λ r. ⌜ rowsOf r ≡ drop k (rowsOf b) ⌝ }
-{
-    let m = length_of(b);
-    let first = lesser(k, m);
-    let count = m - first;
-    let mut n = empty();
-    for i in 0..count {
-        n.rows[i] = b.rows[first + i];
-    }
-    n.count = count;
-    n
 }
 
 // The rows of n qubits that lent words hold.
@@ -154,5 +126,15 @@ pub fn multiply(n: u64, a: &[u64], b: &[u64], out: &mut [u64])
     let k = lesser(rows_in(a), out.len());
     for i in 0..k {
         out[i] = word(times(row(a, i), b));
+    }
+}
+
+// Lays such rows, as rows of n qubits, into lent words.
+pub fn lay(n: u64, w: &[u64], out: &mut [u64])
+    ensures { λ _. ⌜ now (out .exit) ≡ laid n (rowsIn (now (w .entry))) (now (out .entry)) ⌝ }
+{
+    let k = lesser(rows_in(w), out.len());
+    for i in 0..k {
+        out[i] = word(row(w, i));
     }
 }

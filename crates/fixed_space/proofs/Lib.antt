@@ -1,3 +1,4 @@
 pub mod Kernels
 pub mod Fixed
+pub mod Parts
 pub mod Replied

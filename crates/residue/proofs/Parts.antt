@@ -1,6 +1,6 @@
 -- The rows of I + F one by one, a list with its first members behind the others, and words that the residue was reduced in: the basis, the core.
 -- Assumes nothing.
-use mathlib.Core.Path.{_≡_, refl, sym, ap, ap₂, _∙_}
+use mathlib.Core.Path.{_≡_, sym, ap, ap₂, _∙_}
 use mathlib.Core.List.{List, _++_, map}
 use Prim.Native.Nat.{ℕ, _+_, _-_, _%_, _^_, _≤_, _<_}
 use native.Mathlib.Omega.{arith}
@@ -10,7 +10,9 @@ use Rattle.binar.specs.Bits.{_⊕_}
 use Rattle.binar.specs.Rows.{width, rowBound}
 use Rattle.binar.proofs.Sums.{sum-comm}
 use Rattle.blocks.specs.Matrices.{times, units}
+use Rattle.blocks.specs.Words.{over}
 use Rattle.blocks.proofs.All.{All·at, All·left}
+use Rattle.blocks.proofs.Overs.{over-same}
 use Rattle.blocks.proofs.Products.{times-unit}
 use Rattle.blocks.proofs.Units.{units-length, units-lt, units-at}
 use Rattle.blocks.proofs.Values.{map-get}
@@ -47,9 +49,12 @@ module _ (n : ℕ) (F : List ℕ) (size : length F ≡ n + n) where
       → getD F j 0 ⊕ 2 ^ j ≡ getD (drop k (identityPlus n F) ++ take k (identityPlus n F)) i 0
   plus-from-at k i j h g = sym (g (identityPlus n F) plus-length ∙ plus-at j h)
 
-pub residue-from : (n : ℕ) (F : List ℕ) → drop n (identityPlus n F) ++ take n (identityPlus n F) ≡ residue n F
-unfolding residue
-residue-from n F = refl
+  -- from the lower half on, put over as many rows: the residue
+  pub residue-over : (k : ℕ) (x l : List ℕ) → x ≡ over (drop k (identityPlus n F) ++ take k (identityPlus n F)) l → k ≡ n → length l ≡ n + n → x ≡ residue n F
+  unfolding residue
+  residue-over k x l is e h =
+      let P = identityPlus n F in
+      is ∙ over-same (drop k P ++ take k P) l (plus-from-length k ∙ sym h) ∙ ap (λ (j : ℕ). drop j P ++ take j P) e
 
 -- ---- a list with its first k members behind the others
 

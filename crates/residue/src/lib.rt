@@ -28,42 +28,37 @@ fn rotated(i: usize, k: usize, m: usize) -> usize
     if i < rest { i + k } else { i - rest }
 }
 
-// Puts the rows of I + F from row k on, then the first k.
+// Puts the rows of I + F from row k on, then the first k, over lent rows.
 fn put_plus(a: Action, k: usize, w: &mut [u64])
-    requires { ⌜ (k ≤ qubits a + qubits a) × (length (rowsIn (now w)) ≡ qubits a + qubits a) ⌝ }
-    ensures { λ _. ⌜ rowsIn (now (w .exit)) ≡ drop k (identityPlus (qubits a) (matrix a)) ++ take k (identityPlus (qubits a) (matrix a)) ⌝ }
+    requires { ⌜ k ≤ qubits a + qubits a ⌝ }
+    ensures { λ _. ⌜ rowsIn (now (w .exit))
+        ≡ over (drop k (identityPlus (qubits a) (matrix a)) ++ take k (identityPlus (qubits a) (matrix a))) (rowsIn (now (w .entry))) ⌝ }
 {
-    let m = blocks::rows_in(w);
-    for i in 0..m {
+    let n = symplectic::capped(a.n);
+    let m = n + n;
+    let count = blocks::lesser(m, blocks::rows_in(w));
+    for i in 0..count {
         let j = rotated(i, k, m);
         blocks::put(w, i, binar::sum(a.rows[j], binar::unit(j)));
     }
 }
 
-// The rows of I + F from row k on, then the first k.
-fn identity_plus_from(a: Action, k: usize) -> Block
-    requires { ⌜ k ≤ qubits a + qubits a ⌝ }
-    ensures { λ r. ⌜ rowsOf r ≡ drop k (identityPlus (qubits a) (matrix a)) ++ take k (identityPlus (qubits a) (matrix a)) ⌝ }
+// I + F put over lent rows.
+pub fn put_identity_plus(a: Action, w: &mut [u64])
+    ensures { λ _. ⌜ rowsIn (now (w .exit)) ≡ over (identityPlus (qubits a) (matrix a)) (rowsIn (now (w .entry))) ⌝ }
 {
-    let mut w = [0u64; MOST_ROWS];
-    let n = actions::qubits_of(a);
-    let to = blocks::start(&w, n + n);
-    put_plus(a, k, &mut w[..to]);
-    blocks::from_words(MAX_QUBITS, &w[..to])
-}
-
-// I + F.
-pub fn identity_plus(a: Action) -> Block
-    ensures { λ r. ⌜ rowsOf r ≡ identityPlus (qubits a) (matrix a) ⌝ }
-{
-    identity_plus_from(a, 0)
+    put_plus(a, 0, w)
 }
 
 // I + F with the upper and lower n rows exchanged.
 pub fn residue(a: Action) -> Block
     ensures { λ r. ⌜ rowsOf r ≡ residueOf (qubits a) (matrix a) ⌝ }
 {
-    identity_plus_from(a, actions::qubits_of(a))
+    let mut w = [0u64; MOST_ROWS];
+    let n = actions::qubits_of(a);
+    let to = blocks::start(&w, n + n);
+    put_plus(a, n, &mut w[..to]);
+    blocks::from_words(MAX_QUBITS, &w[..to])
 }
 
 // The row whose column i is the dot of v and row i of the first k: v times these transposed.

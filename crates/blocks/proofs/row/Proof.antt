@@ -1,7 +1,7 @@
 -- `row`: the word at i, or zero past the end.
 -- Assumes nothing.
-use mathlib.Core.Path.{_≡_, sym, _∙_}
-use lib.ListN.{length, getD, List·getD-eq-default}
+use mathlib.Core.Path.{sym, _∙_}
+use lib.ListN.{List·getD-eq-default}
 use Rattle.blocks.specs.Words.{rowsOfWords}
 use native.Mathlib.Omega.{arith}
 use borrow.Author.Needs.{needs}

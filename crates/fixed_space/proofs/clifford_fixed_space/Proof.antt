@@ -6,10 +6,10 @@ use mathlib.Core.List.{List}
 use Prim.Native.Nat.{ℕ, _≤_}
 use native.Mathlib.Omega.{arith}
 use lib.ListN.{length}
-use Rattle.blocks.specs.Blocks.{rowsOf}
 use Rattle.blocks.specs.Words.{rowsOfWords, laid}
 use Rattle.symplectic.specs.Sizes.{maxQubits}
 use Rattle.questions.specs.Replies.{actionQuestions}
+use Rattle.actions.specs.Actions.{qubits, matrix}
 use Rattle.actions.proofs.Arrays.{loaded}
 use Rattle.questions.proofs.Questions.{passed-size, passed-count}
 use Rattle.questions.proofs.Listings.{listing-passed, listing-early, listing-short, listing-answer}
@@ -28,15 +28,14 @@ passed c =
 few : (c : tie.After-enum-told) → c .before .before .before .before .before .before .args .n ≤ maxQubits
 few c = let s = c .before .before .before .before .before .before .args in passed-size (s .n) (rowsOfWords (s .n) (s .rows .now)) (passed c)
 
--- the basis of the code is that of the action
-basis-is : (c : tie.After-fixed-space) → let s = c .before .before .before .before .before .before .before .before .before .args in rowsOf (c .fixed-space .result) ≡ fixedSpace (s .n) (rowsOfWords (s .n) (s .rows .now))
-basis-is c =
-    let t = c .before .before .before in
+-- the action that was read is the one that the words hold
+same : (c : tie.After-from-words) → let s = c .before .before .before .before .before .before .before .before .args in let F = rowsOfWords (s .n) (s .rows .now) in (qubits (c .from-words .result) ≡ s .n) × (matrix (c .from-words .result) ≡ F)
+same c =
+    let t = c .before .before in
     let s = t .before .before .before .before .before .before .args in
     let F = rowsOfWords (s .n) (s .rows .now) in
-    let e = c .before .from-words .ensures in
-    let same = loaded (c .before .from-words .result) (s .n) F (few t) (passed-count (s .n) F (passed t)) (e .0) (e .1) in
-    c .fixed-space .ensures ∙ ap₂ (λ (m : ℕ) (G : List ℕ). fixedSpace m G) (same .0) (same .1)
+    let e = c .from-words .ensures in
+    loaded (c .from-words .result) (s .n) F (few t) (passed-count (s .n) F (passed t)) (e .0) (e .1)
 
 action-questions-requires : tie.Need-action-questions-requires
 action-questions-requires c κs = search needs
@@ -67,22 +66,18 @@ from-words-requires c κs = search needs
 fixed-space-requires : tie.Need-fixed-space-requires
 fixed-space-requires c κs = search needs
 
-store-requires : tie.Need-store-requires
-store-requires c κs = search needs
-
-length-of-requires : tie.Need-length-of-requires
-length-of-requires c κs = search needs
-
 same-length : tie.Need-same-length
 same-length c = search needs
 
 returns-3 : tie.Need-returns-3
 returns-3 c =
-    let t = c .before .before .before .before .before in
-    let s = t .before .before .before .before .before .before .before .before .before .args in
-    let stored = c .before .before .before .store in
-    listing-answer (fixed-call (s .n) (s .rows .now) (s .out .now)) (passed (t .before .before .before)) (omega arith) (c .length-of .result) (stored .last .1 .1 .0)
-    (c .length-of .ensures ∙ ap length (basis-is t)) (stored .ensures ∙ ap (λ (l : List ℕ). laid (s .n) l (s .out .now)) (basis-is t))
+    let read = c .before .before .before .before in
+    let s = c .before .before .before .before .before .before .before .before .before .before .before .before .args in
+    let e = same read in
+    let o = c .before .before .fixed-space in
+    let is = ap₂ (λ (m : ℕ) (G : List ℕ). fixedSpace m G) (e .0) (e .1) in
+    listing-answer (fixed-call (s .n) (s .rows .now) (s .out .now)) (passed (read .before .before)) (omega arith) (o .result) (o .last .1 .0)
+    (o .ensures .0 ∙ ap length is) (o .ensures .1 ∙ ap₂ (λ (m : ℕ) (l : List ℕ). laid m l (s .out .now)) (e .0) is)
 
 pub clifford-fixed-space-spec : {M : Type 1} → statement M
 clifford-fixed-space-spec =
@@ -96,7 +91,5 @@ clifford-fixed-space-spec =
     returns-2
     from-words-requires
     fixed-space-requires
-    store-requires
-    length-of-requires
     same-length
     returns-3)

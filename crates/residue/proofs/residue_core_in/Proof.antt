@@ -1,20 +1,19 @@
--- `residue_core_in` reduces the residue, by `residue-from` and `reduced-whole`, and puts the front of what is left, by `basis-end` and `core-end`.
+-- `residue_core_in` reduces the residue, by `residue-over` and `reduced-whole`, and puts the front of what is left, by `basis-end` and `core-end`.
 -- Assumes nothing.
 use mathlib.Core.Path.{_≡_, sym, ap, _∙_}
-use mathlib.Core.List.{List, _++_}
+use mathlib.Core.List.{List}
 use Prim.Native.Nat.{ℕ, _+_}
-use lib.ListN.{length, take, drop}
+use lib.ListN.{length}
 use Rattle.blocks.specs.Words.{rowsIn, over}
 use Rattle.blocks.proofs.Values.{unmapped}
 use Rattle.actions.specs.Actions.{qubits, matrix}
-use Rattle.symplectic.specs.Turns.{identityPlus}
 use Rattle.actions.proofs.Arrays.{qubits-le, matrix-length}
 use Rattle.reduction.specs.Columns.{rowReduceWithTransform}
 use Rattle.reduction.specs.inner.Sweeps.{ReducedIn}
 use Rattle.reduction.proofs.InPlace.{reduced-whole}
 use Rattle.reduction.proofs.Parts.{rank-in-rows, rank-in-transform}
 use Rattle.residue.specs.Residue.{residue}
-use Rattle.residue.proofs.Parts.{residue-from, rank-wide, rank-end, basis-end, core-end}
+use Rattle.residue.proofs.Parts.{residue-over, rank-wide, rank-end, basis-end, core-end}
 use Rattle.blocks.proofs.Lent.{lent-same}
 use native.Mathlib.Omega.{arith}
 use borrow.Author.Needs.{needs}
@@ -27,9 +26,9 @@ size c = matrix-length (c .args .a) (search (needs, unmapped))
 -- the rows are those of the residue
 is : (c : tie.After-put-plus) → let a = c .before .before .before .before .before .before .before .args .a in rowsIn (c .put-plus .last .1 .1 .0) ≡ residue (qubits a) (matrix a)
 is c =
-    let a = c .before .before .before .before .before .before .before .args .a in
-    let l = identityPlus (qubits a) (matrix a) in
-    c .put-plus .ensures ∙ ap (λ (k : ℕ). drop k l ++ take k l) (c .before .before .qubits-of .ensures) ∙ residue-from (qubits a) (matrix a)
+    let start = c .before .before .before .before .before .before .before in
+    let s = start .args in
+    residue-over (qubits (s .a)) (matrix (s .a)) (size start) _ _ (rowsIn (s .rows .now)) (c .put-plus .ensures) (c .before .before .qubits-of .ensures) (start .pre .0)
 
 -- and they are reduced, all of them
 done : (c : tie.After-row-reduce)
