@@ -1,6 +1,6 @@
 -- Rows reduced in place: as many as fit, put back over the others; all of them, where there are as many for the transform and a block has room for them.
 -- Assumes nothing.
-use mathlib.Core.Path.{_≡_, refl, sym, ap, _∙_}
+use mathlib.Core.Path.{_≡_, refl, ap, _∙_}
 use mathlib.Core.List.{List, map}
 use Prim.Native.Nat.{ℕ, _%_, _≤_, min}
 use native.Mathlib.Omega.{arith}
@@ -9,7 +9,7 @@ use lib.Seq.{take-all}
 use Rattle.binar.specs.Rows.{rowBound}
 use Rattle.blocks.specs.Blocks.{room}
 use Rattle.blocks.specs.Words.{over}
-use Rattle.blocks.proofs.Overs.{over-length, over-front}
+use Rattle.blocks.proofs.Overs.{over-same}
 use Rattle.reduction.specs.Columns.{rows, rowReduceWithTransform, rank, fitting}
 use Rattle.reduction.specs.inner.Sweeps.{ReducedIn}
 use Rattle.reduction.proofs.Transform.{transform-length}
@@ -23,9 +23,6 @@ fitting-front A T k e = ap (λ (n : ℕ). take n A) e
 fitting-whole : (A T : List ℕ) → length A ≡ length T → length A ≤ room → fitting A T ≡ A
 unfolding fitting
 fitting-whole A T e h = take-all (min room (min (length A) (length T))) A (omega arith)
-
-over-same : (l out : List ℕ) → length l ≡ length out → over l out ≡ l
-over-same l out e = sym (take-all (length l) (over l out) (omega (arith, over-length l out))) ∙ over-front l out (omega arith)
 
 -- what was reduced in place is all of M
 module _ (m p : ℕ) (M T₀ R T : List ℕ) (even : length M ≡ length T₀) (few : length M ≤ room) where

@@ -5,14 +5,14 @@ use mathlib.Core.List.{List}
 use Prim.Native.Nat.{ℕ, _+_, _/_, _≤_, min}
 use native.Mathlib.Omega.{arith}
 use lib.ListN.{length, take, replicate, length-replicate}
-use lib.Seq.{take-all, length-take-le}
+use lib.Seq.{length-take-le}
 use Rattle.binar.specs.Rows.{width}
 use Rattle.blocks.specs.Matrices.{units}
 use Rattle.blocks.specs.Words.{rowsIn, wordsFor, over}
 use Rattle.blocks.proofs.Units.{units-length}
 use Rattle.blocks.proofs.Values.{rows-count}
 use Rattle.blocks.proofs.Lent.{lent-within, lent-front}
-use Rattle.blocks.proofs.Overs.{over-length, over-front}
+use Rattle.blocks.proofs.Overs.{over-same}
 
 -- as many rows as there is room for
 pub room-in : (m k : ℕ) → k ≤ m → k ≤ length (rowsIn (replicate m 0))
@@ -27,6 +27,4 @@ module _ (k to : ℕ) (ws : List ℕ) (at : to ≡ min (wordsFor k) (length ws))
   part-rows h = ap length (lent-front k to ws at) ∙ length-take-le k (rowsIn ws) h
 
 pub identity-whole : (q : ℕ) (l : List ℕ) → length l ≡ q + q → over (units (q + q)) l ≡ units (q + q)
-identity-whole q l e =
-    let u = units (q + q) in
-    sym (take-all (length u) (over u l) (omega (arith, over-length u l, units-length (q + q)))) ∙ over-front u l (omega (arith, units-length (q + q)))
+identity-whole q l e = over-same (units (q + q)) l (units-length (q + q) ∙ sym e)
