@@ -15,13 +15,6 @@ pub struct Action {
     pub rows: [Row; MOST_ROWS],
 }
 
-// The qubits of an action.
-pub fn qubits_of(a: Action) -> usize
-    ensures { λ r. ⌜ r ≡ qubits a ⌝ }
-{
-    symplectic::capped(a.n)
-}
-
 // The action that words lent for work hold.
 pub fn from_rows(n: u64, w: &[u64]) -> Action
     ensures { λ r. ⌜ (qubits r ≡ cappedOf n) × (matrix r ≡ padded (cappedOf n + cappedOf n) (rowsIn (now (w .entry)))) ⌝ }
@@ -60,7 +53,7 @@ pub fn from_words(n: u64, words: &[u64]) -> Action
 pub fn store(a: Action, out: &mut [u64])
     ensures { λ _. ⌜ now (out .exit) ≡ laid (qubits a) (matrix a) (now (out .entry)) ⌝ }
 {
-    let n = qubits_of(a);
+    let n = symplectic::capped(a.n);
     let count = blocks::lesser(n + n, out.len());
     for i in 0..count {
         let u = a.rows[i];
@@ -72,8 +65,8 @@ pub fn store(a: Action, out: &mut [u64])
 pub fn same_rows(a: Action, b: Action) -> bool
     ensures { λ r. ⌜ r ≡ sameRows (matrix a) (matrix b) ⌝ }
 {
-    let n = qubits_of(a);
-    if qubits_of(b) != n {
+    let n = symplectic::capped(a.n);
+    if symplectic::capped(b.n) != n {
         return false;
     }
     let count = n + n;

@@ -165,7 +165,7 @@ fn is_product_in(a: Action, b: Block, w: &mut [u64]) -> bool
 fn is_product(a: Action, b: Block) -> bool
     ensures { λ r. ⌜ r ≡ sameRows (product (qubits a) (rowsOf b)) (matrix a) ⌝ }
 {
-    let n = actions::qubits_of(a);
+    let n = symplectic::capped(a.n);
     let mut w = [0u64; symplectic::MOST_ROWS];
     let to = blocks::start(&w, n + n);
     is_product_in(a, b, &mut w[..to])
@@ -181,7 +181,7 @@ pub(crate) fn verifies_bordered_decomposition(a: Action, r: usize, vectors: Bloc
     if !none_zero(vectors) {
         return false;
     }
-    let n = actions::qubits_of(a);
+    let n = symplectic::capped(a.n);
     if !fit_all(n + n, vectors) {
         return false;
     }

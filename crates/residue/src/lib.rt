@@ -55,7 +55,7 @@ pub fn residue(a: Action) -> Block
     ensures { λ r. ⌜ rowsOf r ≡ residueOf (qubits a) (matrix a) ⌝ }
 {
     let mut w = [0u64; MOST_ROWS];
-    let n = actions::qubits_of(a);
+    let n = symplectic::capped(a.n);
     let to = blocks::start(&w, n + n);
     put_plus(a, n, &mut w[..to]);
     blocks::from_words(MAX_QUBITS, &w[..to])
@@ -111,7 +111,7 @@ fn residue_core_in(
     ensures based { λ r. ⌜ rowsIn (now (basis .exit)) ≡ over (basisOf (qubits a) (matrix a)) (rowsIn (now (basis .entry))) ⌝ }
     ensures cored { λ r. ⌜ rowsIn (now (core .exit)) ≡ over (coreOf (qubits a) (matrix a)) (rowsIn (now (core .entry))) ⌝ }
 {
-    let n = actions::qubits_of(a);
+    let n = symplectic::capped(a.n);
     put_plus(a, n, rows);
     let r = reduction::row_reduce(n + n, rows, transform);
     put_front(r, rows, basis);
@@ -127,7 +127,7 @@ pub fn residue_core(a: Action, basis: &mut [u64], core: &mut [u64]) -> usize
 {
     let mut rows = [0u64; MOST_ROWS];
     let mut transform = [0u64; MOST_ROWS];
-    let n = actions::qubits_of(a);
+    let n = symplectic::capped(a.n);
     let to = blocks::start(&rows, n + n);
     residue_core_in(a, &mut rows[..to], &mut transform[..to], basis, core)
 }

@@ -172,7 +172,7 @@ fn load(a: Action, w: &mut [u64])
     requires { ⌜ qubits a + qubits a ≤ length (rowsIn (now w)) ⌝ }
     ensures { λ _. ⌜ rowsIn (now (w .exit)) ≡ over (matrix a) (rowsIn (now (w .entry))) ⌝ }
 {
-    let n = actions::qubits_of(a);
+    let n = symplectic::capped(a.n);
     let count = n + n;
     for i in 0..count {
         blocks::put(w, i, a.rows[i]);
@@ -187,7 +187,7 @@ fn lay_list(a: Action, out: &mut [u64]) -> usize
     let mut w = [0u64; symplectic::MOST_ROWS];
     let mut kept = [0u64; RECORD_ROOM];
     load(a, &mut w);
-    let n = actions::qubits_of(a);
+    let n = symplectic::capped(a.n);
     let to = blocks::start(&w, n + n);
     let count = record_turns(n as u64, &mut w[..to], &mut kept);
     store_reversed(n as u64, &kept, count, out);

@@ -109,7 +109,7 @@ fn from_core(a: Action, basis: &[u64], core: &[u64], budget: u64, out: &mut [u64
     ensures answered { λ r. ⌜ figuresOf r ≡ searchedReply (qubits a) (matrix a) (budgeted budget (coreSearch (qubits a) (matrix a))) (now (out .entry)) .figures ⌝ }
     ensures left { λ r. ⌜ now (out .exit) ≡ searchedReply (qubits a) (matrix a) (budgeted budget (coreSearch (qubits a) (matrix a))) (now (out .entry)) .words ⌝ }
 {
-    let n = actions::qubits_of(a) as u64;
+    let n = symplectic::capped(a.n) as u64;
     let mut list = [0u64; WIDTH];
     let o = search::congruence_triangularize(core, budget, &mut list);
     let looks = o.looks;

@@ -10,7 +10,7 @@ use Rattle.blocks.proofs.Values.{unmapped}
 use Rattle.symplectic.specs.Sizes.{mostRows}
 use Rattle.actions.specs.Actions.{qubits, matrix}
 use Rattle.symplectic.specs.Matches.{sameRows}
-use Rattle.actions.proofs.Arrays.{qubits-le, matrix-length, matrix-get}
+use Rattle.actions.proofs.Arrays.{qubits-le, matrix-length, matrix-get, qubits-capped}
 use Rattle.symplectic.proofs.Matches.{rows-differ, same-end, same-onward, same-stopped}
 use borrow.Author.Needs.{needs}
 use Rattle.actions.proofs.same_rows.Statement.{statement}
@@ -29,24 +29,30 @@ size c = matrix-length (c .args .t1) (search (needs, unmapped))
 size-2 : (c : tie.Start Inv-loop μ-loop) → length (matrix (c .args .t2)) ≡ qubits (c .args .t2) + qubits (c .args .t2)
 size-2 c = matrix-length (c .args .t2) (search (needs, unmapped))
 
-qubits-of-requires : tie.Need-qubits-of-requires Inv-loop μ-loop
-qubits-of-requires c κs = search needs
+first-is : (c : tie.After-capped Inv-loop μ-loop) → c .capped .result ≡ qubits (c .before .args .t1)
+first-is c = c .capped .ensures ∙ sym (qubits-capped (c .before .args .t1))
 
-qubits-of-requires-2 : tie.Need-qubits-of-requires-2 Inv-loop μ-loop
-qubits-of-requires-2 c κs = search needs
+second-is : (c : tie.After-capped2 Inv-loop μ-loop) → c .capped2 .result ≡ qubits (c .before .before .args .t2)
+second-is c = c .capped2 .ensures ∙ sym (qubits-capped (c .before .before .args .t2))
+
+capped-requires : tie.Need-capped-requires Inv-loop μ-loop
+capped-requires c κs = search needs
+
+capped-requires-2 : tie.Need-capped-requires-2 Inv-loop μ-loop
+capped-requires-2 c κs = search needs
 
 returns : tie.Need-returns Inv-loop μ-loop
 returns c =
     let s = c .before .before .before in
-    rows-differ (matrix (s .args .t1)) (matrix (s .args .t2)) (λ e. c .if1 .taken (omega (arith, e, size s, size-2 s, c .before .before .qubits-of .ensures, c .before .qubits-of2 .ensures)))
+    rows-differ (matrix (s .args .t1)) (matrix (s .args .t2)) (λ e. c .if1 .taken (omega (arith, e, size s, size-2 s, first-is (c .before .before), second-is (c .before))))
 
 add-count : tie.Need-add-count Inv-loop μ-loop
-add-count c = omega (arith, qubits-le (c .before .before .before .args .t1), c .before .before .qubits-of .ensures)
+add-count c = omega (arith, qubits-le (c .before .before .before .args .t1), first-is (c .before .before))
 
 loop-holds : tie.Need-loop-holds Inv-loop μ-loop
 loop-holds c =
-    let e = c .before .before .qubits-of .ensures in
-    (search needs, omega (arith, e, qubits-le (c .before .before .before .args .t1)), omega (arith, e), omega (arith, e, c .before .qubits-of2 .ensures), refl)
+    let e = first-is (c .before .before) in
+    (search needs, omega (arith, e, qubits-le (c .before .before .before .args .t1)), omega (arith, e), omega (arith, e, second-is (c .before)), refl)
 
 mul-equal : tie.Need-mul-equal Inv-loop μ-loop
 mul-equal c = search needs
@@ -101,8 +107,8 @@ same-rows-spec =
     (tie.spec
     Inv-loop
     μ-loop
-    qubits-of-requires
-    qubits-of-requires-2
+    capped-requires
+    capped-requires-2
     returns
     add-count
     loop-holds

@@ -1,6 +1,6 @@
 -- `store` lays the rows one by one, by `laid-next` and `laid-end`.
 -- Assumes nothing.
-use mathlib.Core.Path.{_≡_, refl, _∙_}
+use mathlib.Core.Path.{_≡_, refl, _∙_, sym}
 use mathlib.Core.List.{_++_}
 use Prim.Native.Nat.{_+_, _-_, _≤_, _<_}
 use native.Mathlib.Omega.{arith}
@@ -9,7 +9,7 @@ use Rattle.blocks.proofs.Values.{laid-next, laid-end, unmapped}
 use Rattle.blocks.specs.Words.{wordsOfRows}
 use Rattle.symplectic.specs.Sizes.{mostRows}
 use Rattle.actions.specs.Actions.{qubits, matrix}
-use Rattle.actions.proofs.Arrays.{qubits-le, matrix-length, matrix-get}
+use Rattle.actions.proofs.Arrays.{qubits-le, matrix-length, matrix-get, qubits-capped}
 use borrow.Author.Needs.{needs}
 use Rattle.actions.proofs.store.Statement.{statement}
 use Rattle.actions.proofs.store.Tie as tie
@@ -21,20 +21,23 @@ Inv-loop out₀ a n count i₀ out i =
 abbrev μ-loop : tie.MeasureT-loop
 μ-loop out₀ a n count i₀ out i = count - i
 
+qubits-is : (c : tie.After-capped Inv-loop μ-loop) → c .capped .result ≡ qubits (c .before .before .args .t1)
+qubits-is c = c .capped .ensures ∙ sym (qubits-capped (c .before .before .args .t1))
+
 long : (c : tie.Start Inv-loop μ-loop) → length (c .args .t1 .rows) ≡ mostRows
 long c = search (needs, unmapped)
 
-qubits-of-requires : tie.Need-qubits-of-requires Inv-loop μ-loop
-qubits-of-requires c κs = search needs
+capped-requires : tie.Need-capped-requires Inv-loop μ-loop
+capped-requires c κs = search needs
 
 add-lesser : tie.Need-add-lesser Inv-loop μ-loop
-add-lesser c = omega (arith, qubits-le (c .before .before .args .t1), c .qubits-of .ensures)
+add-lesser c = omega (arith, qubits-le (c .before .before .args .t1), qubits-is c)
 
 lesser-requires : tie.Need-lesser-requires Inv-loop μ-loop
 lesser-requires c κs = search needs
 
 loop-holds : tie.Need-loop-holds Inv-loop μ-loop
-loop-holds c = (search needs, omega (arith, qubits-le (c .before .before .before .args .t1), c .before .qubits-of .ensures, c .lesser .ensures), refl, refl)
+loop-holds c = (search needs, omega (arith, qubits-le (c .before .before .before .args .t1), qubits-is (c .before), c .lesser .ensures), refl, refl)
 
 mul-u : tie.Need-mul-u Inv-loop μ-loop
 mul-u c = search needs
@@ -64,7 +67,7 @@ loop-again c =
     let m = matrix (s .t1) in
     let size = matrix-length (s .t1) (long (c .before .before .before .before .before .before .before)) in
     let e = c .before .before .before .before .lesser .ensures in
-    let h : at .i < qubits (s .t1) + qubits (s .t1) = omega (arith, e, c .before .before .before .before .before .qubits-of .ensures) in
+    let h : at .i < qubits (s .t1) + qubits (s .t1) = omega (arith, e, qubits-is (c .before .before .before .before .before)) in
     let g : at .i < length (s .out .now) = omega (arith, e) in (
       search needs,
       search needs,
@@ -80,7 +83,7 @@ returns c =
     let s = c .before .before .before .before .before .args in
     let size = matrix-length (s .t1) (long (c .before .before .before .before .before)) in
     c .before .loop .inv .3
-    ∙ laid-end (qubits (s .t1)) (matrix (s .t1)) (s .out .now) (c .before .loop .i) (omega (arith, c .before .before .lesser .ensures, c .before .before .before .qubits-of .ensures))
+    ∙ laid-end (qubits (s .t1)) (matrix (s .t1)) (s .out .now) (c .before .loop .i) (omega (arith, c .before .before .lesser .ensures, qubits-is (c .before .before .before)))
 
 pub store-spec : {M : Type 1} → statement M
 store-spec =
@@ -88,7 +91,7 @@ store-spec =
     (tie.spec
     Inv-loop
     μ-loop
-    qubits-of-requires
+    capped-requires
     add-lesser
     lesser-requires
     loop-holds

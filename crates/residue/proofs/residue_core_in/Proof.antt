@@ -7,7 +7,7 @@ use lib.ListN.{length}
 use Rattle.blocks.specs.Words.{rowsIn, over}
 use Rattle.blocks.proofs.Values.{unmapped}
 use Rattle.actions.specs.Actions.{qubits, matrix}
-use Rattle.actions.proofs.Arrays.{qubits-le, matrix-length}
+use Rattle.actions.proofs.Arrays.{qubits-le, matrix-length, qubits-capped}
 use Rattle.reduction.specs.Columns.{rowReduceWithTransform}
 use Rattle.reduction.specs.inner.Sweeps.{ReducedIn}
 use Rattle.reduction.proofs.InPlace.{reduced-whole}
@@ -20,6 +20,9 @@ use borrow.Author.Needs.{needs}
 use Rattle.residue.proofs.residue_core_in.Statement.{statement}
 use Rattle.residue.proofs.residue_core_in.Tie as tie
 
+qubits-is : (c : tie.After-capped) → c .capped .result ≡ qubits (c .before .before .before .before .before .args .a)
+qubits-is c = c .capped .ensures ∙ sym (qubits-capped (c .before .before .before .before .before .args .a))
+
 size : (c : tie.Start) → length (matrix (c .args .a)) ≡ qubits (c .args .a) + qubits (c .args .a)
 size c = matrix-length (c .args .a) (search (needs, unmapped))
 
@@ -28,36 +31,36 @@ is : (c : tie.After-put-plus) → let a = c .before .before .before .before .bef
 is c =
     let start = c .before .before .before .before .before .before .before in
     let s = start .args in
-    residue-over (qubits (s .a)) (matrix (s .a)) (size start) _ _ (rowsIn (s .rows .now)) (c .put-plus .ensures) (c .before .before .qubits-of .ensures) (start .pre .0)
+    residue-over (qubits (s .a)) (matrix (s .a)) (size start) _ _ (rowsIn (s .rows .now)) (c .put-plus .ensures) (qubits-is (c .before .before)) (start .pre .0)
 
 -- and they are reduced, all of them
 done : (c : tie.After-row-reduce)
-    → let n = c .before .before .before .before .before .before .before .qubits-of .result in let M = rowsIn (c .before .before .before .before .before .put-plus .last .1 .1 .0) in
+    → let n = c .before .before .before .before .before .before .before .capped .result in let M = rowsIn (c .before .before .before .before .before .put-plus .last .1 .1 .0) in
     ReducedIn (n + n) M (c .row-reduce .result) (rowsIn (c .row-reduce .last .1 .0)) (rowsIn (c .row-reduce .last .1 .1 .0)) (rowReduceWithTransform (n + n) M .pivots)
 done c =
     let start = c .before .before .before .before .before .before .before .before .before .before .before .before in
     let s = start .args in
-    let n = c .before .before .before .before .before .before .before .qubits-of .result in
+    let n = c .before .before .before .before .before .before .before .capped .result in
     let put = c .before .before .before .before .before .put-plus in
     let r = c .row-reduce in
     let long = lent-same (put .last .1 .1 .0) (s .rows .now) (put .kept .1 .1 .0) ∙ start .pre .0 in
     reduced-whole (n + n) (r .result) _ (rowsIn (s .transform .now)) _ _ (long ∙ sym (start .pre .1)) (omega (arith, long, qubits-le (s .a))) (r .ensures .0) (r .ensures .1 .0) (r .ensures .1 .1)
 
-qubits-of-requires : tie.Need-qubits-of-requires
-qubits-of-requires c κs = search needs
+capped-requires : tie.Need-capped-requires
+capped-requires c κs = search needs
 
 put-plus-requires : tie.Need-put-plus-requires
-put-plus-requires c κs = search needs
+put-plus-requires c κs = omega (arith, qubits-is (c .before))
 
 add-row-reduce : tie.Need-add-row-reduce
-add-row-reduce c = omega (arith, c .before .before .before .before .qubits-of .ensures, qubits-le (c .before .before .before .before .before .before .before .before .before .args .a))
+add-row-reduce c = omega (arith, qubits-is (c .before .before .before .before), qubits-le (c .before .before .before .before .before .before .before .before .before .args .a))
 
 row-reduce-requires : tie.Need-row-reduce-requires
 row-reduce-requires c κs = search needs
 
 put-front-requires : tie.Need-put-front-requires
 put-front-requires c κs =
-    let n = c .before .before .before .before .before .before .before .before .before .before .before .before .before .qubits-of .result in
+    let n = c .before .before .before .before .before .before .before .before .before .before .before .before .before .capped .result in
     let r = c .before .before .before .before .before .before in
     rank-in-rows (n + n) (r .row-reduce .result) _ _ _ _ (done r)
 
@@ -65,12 +68,12 @@ put-core-requires : tie.Need-put-core-requires
 put-core-requires c κs =
     let start = c .before .before .before .before .before .before .before .before .before .before .before .before .before .before .before .before .before .before .before .before .before .before .before .before in
     let a = start .args .a in
-    let n = c .before .before .before .before .before .before .before .before .before .before .before .before .before .before .before .before .before .before .before .qubits-of in
+    let n = c .before .before .before .before .before .before .before .before .before .before .before .before .before .before .before .before .before .before .before in
     let put = c .before .before .before .before .before .before .before .before .before .before .before .before .before .before .before .before .before in
     let r = c .before .before .before .before .before .before .before .before .before .before .before .before in (
-      rank-wide (n .result) (qubits a) (r .row-reduce .result) (matrix a) _ _ _ _ (size start) (qubits-le a) (n .ensures) (is put) (done r),
-      rank-in-rows (n .result + n .result) (r .row-reduce .result) _ _ _ _ (done r),
-      rank-in-transform (n .result + n .result) (r .row-reduce .result) _ _ _ _ (done r),
+      rank-wide (n .capped .result) (qubits a) (r .row-reduce .result) (matrix a) _ _ _ _ (size start) (qubits-le a) (qubits-is n) (is put) (done r),
+      rank-in-rows (n .capped .result + n .capped .result) (r .row-reduce .result) _ _ _ _ (done r),
+      rank-in-transform (n .capped .result + n .capped .result) (r .row-reduce .result) _ _ _ _ (done r),
     )
 
 same-length : tie.Need-same-length
@@ -90,12 +93,12 @@ returns c =
     let start = c .before .before .before .before .before .before .before .before .before .before .before .before .before .before .before .before .before .before .before .before .before .before .before .before .before .before .before in
     let s = start .args in
     let a = s .a in
-    let n = c .before .before .before .before .before .before .before .before .before .before .before .before .before .before .before .before .before .before .before .before .before .before .qubits-of in
+    let n = c .before .before .before .before .before .before .before .before .before .before .before .before .before .before .before .before .before .before .before .before .before .before in
     let put = c .before .before .before .before .before .before .before .before .before .before .before .before .before .before .before .before .before .before .before .before in
     let r = c .before .before .before .before .before .before .before .before .before .before .before .before .before .before .before in
-    let rank = rank-end (n .result) (qubits a) (r .row-reduce .result) (matrix a) _ _ _ _ (size start) (qubits-le a) (n .ensures) (is put) (done r) in
-    let basis = basis-end (n .result) (qubits a) (r .row-reduce .result) (matrix a) _ _ _ _ (size start) (qubits-le a) (n .ensures) (is put) (done r) in
-    let core = core-end (n .result) (qubits a) (r .row-reduce .result) (matrix a) _ _ _ _ (size start) (qubits-le a) (n .ensures) (is put) (done r) in
+    let rank = rank-end (n .capped .result) (qubits a) (r .row-reduce .result) (matrix a) _ _ _ _ (size start) (qubits-le a) (qubits-is n) (is put) (done r) in
+    let basis = basis-end (n .capped .result) (qubits a) (r .row-reduce .result) (matrix a) _ _ _ _ (size start) (qubits-le a) (qubits-is n) (is put) (done r) in
+    let core = core-end (n .capped .result) (qubits a) (r .row-reduce .result) (matrix a) _ _ _ _ (size start) (qubits-le a) (qubits-is n) (is put) (done r) in
     let based = c .before .before .before .before .before .before .before .before .put-front .ensures ∙ ap (λ (l : List ℕ). over l (rowsIn (s .basis .now))) basis in
     (rank, (based, c .before .before .put-core .ensures ∙ ap (λ (l : List ℕ). over l (rowsIn (s .core .now))) core))
 
@@ -103,7 +106,7 @@ pub residue-core-in-spec : {M : Type 1} → statement M
 residue-core-in-spec =
     tie.close
     (tie.spec
-    qubits-of-requires
+    capped-requires
     put-plus-requires
     add-row-reduce
     row-reduce-requires

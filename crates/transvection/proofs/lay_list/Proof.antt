@@ -12,13 +12,16 @@ use Rattle.blocks.proofs.Lent.{lent-front}
 use Rattle.blocks.proofs.Overs.{over-front}
 use Rattle.symplectic.specs.Sizes.{mostRows}
 use Rattle.actions.specs.Actions.{qubits, matrix}
-use Rattle.actions.proofs.Arrays.{qubits-le, matrix-length}
+use Rattle.actions.proofs.Arrays.{qubits-le, matrix-length, qubits-capped}
 use Rattle.symplectic.proofs.Work.{room-in, part-words}
 use Rattle.transvection.specs.Greedy.{recorded, greedyList}
 use Rattle.transvection.proofs.Kept.{back-length}
 use borrow.Author.Needs.{needs}
 use Rattle.transvection.proofs.lay_list.Statement.{statement}
 use Rattle.transvection.proofs.lay_list.Tie as tie
+
+qubits-is : (c : tie.After-capped) → c .capped .result ≡ qubits (c .before .before .before .before .before .args .a)
+qubits-is c = c .capped .ensures ∙ sym (qubits-capped (c .before .before .before .before .before .args .a))
 
 -- how many turns a record has room for
 abbrev recordRoom : ℕ
@@ -31,18 +34,18 @@ size c = let long : length (c .args .a .rows) ≡ mostRows = search (needs, unma
 loaded : (c : tie.After-start) → rowsIn (take (c .start .result) (c .before .before .before .before .load .last .1 .0)) ≡ matrix (c .before .before .before .before .before .before .before .args .a)
 loaded c =
     let a = c .before .before .before .before .before .before .before .args .a in
-    let n = c .before .before .qubits-of .result in
+    let n = c .before .before .capped .result in
     let zeros = rowsIn (replicate mostRows 0) in
     lent-front (n + n) (c .start .result) (c .before .before .before .before .load .last .1 .0) (c .start .ensures)
-    ∙ ap₂ take (ap (λ (m : ℕ). m + m) (c .before .before .qubits-of .ensures) ∙ sym (size (c .before .before .before .before .before .before .before))) (c .before .before .before .before .load .ensures)
+    ∙ ap₂ take (ap (λ (m : ℕ). m + m) (qubits-is (c .before .before)) ∙ sym (size (c .before .before .before .before .before .before .before))) (c .before .before .before .before .load .ensures)
     ∙ over-front (matrix a) zeros (room-in mostRows (length (matrix a)) (omega (arith, size (c .before .before .before .before .before .before .before), qubits-le a)))
 
 -- the record is that of the rule
 kept-is : (c : tie.After-record-turns) → take (c .record-turns .result) (rowsIn (c .record-turns .last .1 .1 .0)) ≡ recorded (qubits (c .before .before .before .before .before .before .before .before .before .before .args .a)) (4 * qubits (c .before .before .before .before .before .before .before .before .before .before .args .a) + 2) (matrix (c .before .before .before .before .before .before .before .before .before .before .args .a))
-kept-is c = c .record-turns .ensures .1 ∙ ap₂ (λ (m : ℕ) (F : List ℕ). recorded m (4 * m + 2) F) (c .before .before .before .before .before .qubits-of .ensures) (loaded (c .before .before .before))
+kept-is c = c .record-turns .ensures .1 ∙ ap₂ (λ (m : ℕ) (F : List ℕ). recorded m (4 * m + 2) F) (qubits-is (c .before .before .before .before .before)) (loaded (c .before .before .before))
 
 fits : (c : tie.After-kept3) → c .before .before .before .record-turns .result ≤ length (rowsIn (c .before .before .before .record-turns .last .1 .1 .0))
-fits c = omega (arith, rows-count (width / 2) (c .before .before .before .record-turns .last .1 .1 .0), qubits-le (c .before .before .before .before .before .before .before .before .before .before .before .before .before .args .a), c .before .before .before .before .before .before .before .before .qubits-of .ensures, c .before .before .before .record-turns .ensures .0)
+fits c = omega (arith, rows-count (width / 2) (c .before .before .before .record-turns .last .1 .1 .0), qubits-le (c .before .before .before .before .before .before .before .before .before .before .before .before .before .args .a), qubits-is (c .before .before .before .before .before .before .before .before), c .before .before .before .record-turns .ensures .0)
 
 slice-aggregate-load : tie.Need-slice-aggregate-load
 slice-aggregate-load c = search needs
@@ -50,14 +53,14 @@ slice-aggregate-load c = search needs
 load-requires : tie.Need-load-requires
 load-requires c κs = room-in mostRows (qubits (c .before .before .args .a) + qubits (c .before .before .args .a)) (omega (arith, qubits-le (c .before .before .args .a)))
 
-qubits-of-requires : tie.Need-qubits-of-requires
-qubits-of-requires c κs = search needs
+capped-requires : tie.Need-capped-requires
+capped-requires c κs = search needs
 
 slice-aggregate-start : tie.Need-slice-aggregate-start
 slice-aggregate-start c = search needs
 
 add-start : tie.Need-add-start
-add-start c = omega (arith, c .before .qubits-of .ensures, qubits-le (c .before .before .before .before .before .before .args .a))
+add-start c = omega (arith, qubits-is (c .before), qubits-le (c .before .before .before .before .before .before .args .a))
 
 start-requires : tie.Need-start-requires
 start-requires c κs = search needs
@@ -66,22 +69,22 @@ array-borrow-prefix-w : tie.Need-array-borrow-prefix-w
 array-borrow-prefix-w c = search needs
 
 slice-aggregate-record-turns : tie.Need-slice-aggregate-record-turns
-slice-aggregate-record-turns c = let n = c .before .before .before .qubits-of .result in part-words (n + n) (c .before .start .result) (c .before .before .before .before .before .load .last .1 .0) (c .before .start .ensures)
+slice-aggregate-record-turns c = let n = c .before .before .before .capped .result in part-words (n + n) (c .before .start .result) (c .before .before .before .before .before .load .last .1 .0) (c .before .start .ensures)
 
 slice-aggregate-record-turns-2 : tie.Need-slice-aggregate-record-turns-2
 slice-aggregate-record-turns-2 c = search needs
 
 record-turns-requires : tie.Need-record-turns-requires
 record-turns-requires c κs =
-    let q = c .before .before .before .before .qubits-of .ensures in
+    let q = qubits-is (c .before .before .before .before) in
     let le = qubits-le (c .before .before .before .before .before .before .before .before .before .args .a) in
-    (omega (arith, q, le), ap length (loaded (c .before .before)) ∙ size (c .before .before .before .before .before .before .before .before .before) ∙ sym (ap (λ (m : ℕ). m + m) q), room-in recordRoom (4 * c .before .before .before .before .qubits-of .result + 2) (omega (arith, q, le)))
+    (omega (arith, q, le), ap length (loaded (c .before .before)) ∙ size (c .before .before .before .before .before .before .before .before .before) ∙ sym (ap (λ (m : ℕ). m + m) q), room-in recordRoom (4 * c .before .before .before .before .capped .result + 2) (omega (arith, q, le)))
 
 slice-aggregate-store-reversed : tie.Need-slice-aggregate-store-reversed
 slice-aggregate-store-reversed c = search needs
 
 store-reversed-requires : tie.Need-store-reversed-requires
-store-reversed-requires c κs = (fits (c .before), omega (arith, c .before .before .before .before .before .before .before .before .before .before .before .before .before .before .pre, c .before .before .before .before .record-turns .ensures .0, c .before .before .before .before .before .before .before .before .before .qubits-of .ensures))
+store-reversed-requires c κs = (fits (c .before), omega (arith, c .before .before .before .before .before .before .before .before .before .before .before .before .before .before .pre, c .before .before .before .before .record-turns .ensures .0, qubits-is (c .before .before .before .before .before .before .before .before .before)))
 
 same-length : tie.Need-same-length
 same-length c = search needs
@@ -93,7 +96,7 @@ returns c =
     let t = c .before .before .before .before .before .before .before in
     let kept = ap reverse (kept-is t) in (
       sym (back-length (rowsIn (t .record-turns .last .1 .1 .0)) (t .record-turns .result) (fits (c .before .before .before .before))) ∙ ap length kept,
-      c .before .before .store-reversed .ensures ∙ ap₂ (λ (m : ℕ) (l : List ℕ). laid m l (s .out .now)) (c .before .before .before .before .before .before .before .before .before .before .before .before .qubits-of .ensures) kept,
+      c .before .before .store-reversed .ensures ∙ ap₂ (λ (m : ℕ) (l : List ℕ). laid m l (s .out .now)) (qubits-is (c .before .before .before .before .before .before .before .before .before .before .before .before)) kept,
     )
 
 pub lay-list-spec : {M : Type 1} → statement M
@@ -102,7 +105,7 @@ lay-list-spec =
     (tie.spec
     slice-aggregate-load
     load-requires
-    qubits-of-requires
+    capped-requires
     slice-aggregate-start
     add-start
     start-requires

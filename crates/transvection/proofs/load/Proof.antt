@@ -1,6 +1,6 @@
 -- `load` puts the rows over others one by one, by `over-next` and `over-end`.
 -- Assumes nothing.
-use mathlib.Core.Path.{_≡_, refl, _∙_}
+use mathlib.Core.Path.{_≡_, refl, _∙_, sym}
 use mathlib.Core.List.{_++_}
 use Prim.Native.Nat.{_+_, _-_, _≤_, _<_}
 use native.Mathlib.Omega.{arith}
@@ -10,7 +10,7 @@ use Rattle.blocks.proofs.Values.{unmapped}
 use Rattle.blocks.proofs.Overs.{over-next, over-end}
 use Rattle.symplectic.specs.Sizes.{mostRows}
 use Rattle.actions.specs.Actions.{qubits, matrix}
-use Rattle.actions.proofs.Arrays.{qubits-le, matrix-get, matrix-length}
+use Rattle.actions.proofs.Arrays.{qubits-le, matrix-get, matrix-length, qubits-capped}
 use borrow.Author.Needs.{needs}
 use Rattle.transvection.proofs.load.Statement.{statement}
 use Rattle.transvection.proofs.load.Tie as tie
@@ -21,29 +21,32 @@ Inv-loop w₀ a n count i₀ w i = (i ≤ count) × (length w ≡ length w₀) �
 abbrev μ-loop : tie.MeasureT-loop
 μ-loop w₀ a n count i₀ w i = count - i
 
+qubits-is : (c : tie.After-capped Inv-loop μ-loop) → c .capped .result ≡ qubits (c .before .before .args .t1)
+qubits-is c = c .capped .ensures ∙ sym (qubits-capped (c .before .before .args .t1))
+
 size : (c : tie.Start Inv-loop μ-loop) → length (matrix (c .args .t1)) ≡ qubits (c .args .t1) + qubits (c .args .t1)
 size c = let long : length (c .args .t1 .rows) ≡ mostRows = search (needs, unmapped) in matrix-length (c .args .t1) long
 
-qubits-of-requires : tie.Need-qubits-of-requires Inv-loop μ-loop
-qubits-of-requires c κs = search needs
+capped-requires : tie.Need-capped-requires Inv-loop μ-loop
+capped-requires c κs = search needs
 
 add-count : tie.Need-add-count Inv-loop μ-loop
-add-count c = omega (arith, c .qubits-of .ensures, qubits-le (c .before .before .args .t1))
+add-count c = omega (arith, qubits-is c, qubits-le (c .before .before .args .t1))
 
 loop-holds : tie.Need-loop-holds Inv-loop μ-loop
 loop-holds c = (search needs, refl, refl)
 
 mul-put : tie.Need-mul-put Inv-loop μ-loop
-mul-put c = omega (arith, qubits-le (c .before .before .before .before .before .args .t1), c .before .before .before .qubits-of .ensures, c .before .loop-test .taken)
+mul-put c = omega (arith, qubits-le (c .before .before .before .before .before .args .t1), qubits-is (c .before .before .before), c .before .loop-test .taken)
 
 element-copy-out-put : tie.Need-element-copy-out-put Inv-loop μ-loop
-element-copy-out-put c = let s = c .before .before .before .before .before .args in omega (arith, qubits-le (s .t1), c .before .before .before .qubits-of .ensures, c .before .loop-test .taken)
+element-copy-out-put c = let s = c .before .before .before .before .before .args in omega (arith, qubits-le (s .t1), qubits-is (c .before .before .before), c .before .loop-test .taken)
 
 put-requires : tie.Need-put-requires Inv-loop μ-loop
 put-requires c κs = search needs
 
 add-i : tie.Need-add-i Inv-loop μ-loop
-add-i c = omega (arith, qubits-le (c .before .before .before .before .before .before .before .before .before .args .t1), c .before .before .before .before .before .before .before .qubits-of .ensures, c .before .before .before .before .before .loop-test .taken)
+add-i c = omega (arith, qubits-le (c .before .before .before .before .before .before .before .before .before .args .t1), qubits-is (c .before .before .before .before .before .before .before), c .before .before .before .before .before .loop-test .taken)
 
 loop-less : tie.Need-loop-less Inv-loop μ-loop
 loop-less c = search needs
@@ -52,7 +55,7 @@ loop-again : tie.Need-loop-again Inv-loop μ-loop
 loop-again c =
     let s = c .before .before .before .before .before .before .before .before .before .args in
     let at = c .before .before .before .before .before .before .loop in
-    let q = c .before .before .before .before .before .before .before .qubits-of .ensures in
+    let q = qubits-is (c .before .before .before .before .before .before .before) in
     let h : at .i < qubits (s .t1) + qubits (s .t1) = omega (arith, q, c .before .before .before .before .before .loop-test .taken) in
     let many = size (c .before .before .before .before .before .before .before .before .before) in (
       search needs,
@@ -67,7 +70,7 @@ returns : tie.Need-returns Inv-loop μ-loop
 returns c =
     let s = c .before .before .before .before .args in
     let at = c .before .loop in
-    at .inv .2 ∙ over-end (matrix (s .t1)) (rowsIn (s .w .now)) (at .i) (omega (arith, size (c .before .before .before .before), c .before .before .qubits-of .ensures, c .before .before .before .before .pre))
+    at .inv .2 ∙ over-end (matrix (s .t1)) (rowsIn (s .w .now)) (at .i) (omega (arith, size (c .before .before .before .before), qubits-is (c .before .before), c .before .before .before .before .pre))
 
 pub load-spec : {M : Type 1} → statement M
 load-spec =
@@ -75,7 +78,7 @@ load-spec =
     (tie.spec
     Inv-loop
     μ-loop
-    qubits-of-requires
+    capped-requires
     add-count
     loop-holds
     mul-put

@@ -14,7 +14,7 @@ use Rattle.blocks.proofs.Overs.{over-front}
 use Rattle.symplectic.specs.Sizes.{mostRows}
 use Rattle.actions.specs.Actions.{qubits, matrix}
 use Rattle.questions.specs.Replies.{Reply}
-use Rattle.actions.proofs.Arrays.{qubits-le, matrix-length}
+use Rattle.actions.proofs.Arrays.{qubits-le, matrix-length, qubits-capped}
 use Rattle.symplectic.proofs.Work.{room-in, part-words}
 use Rattle.residue.proofs.Core.{core-within}
 use Rattle.triangular.specs.declared.Ending.the-variants.{Found}
@@ -25,14 +25,17 @@ use borrow.Author.Needs.{needs}
 use Rattle.transvection_exact.proofs.from_core.Statement.{statement}
 use Rattle.transvection_exact.proofs.from_core.Tie as tie
 
+qubits-is : (c : tie.After-capped) → c .capped .result ≡ qubits (c .before .before .before .before .args .a)
+qubits-is c = c .capped .ensures ∙ sym (qubits-capped (c .before .before .before .before .args .a))
+
 size : (c : tie.Start) → length (matrix (c .args .a)) ≡ qubits (c .args .a) + qubits (c .args .a)
 size c = let long : length (c .args .a .rows) ≡ mostRows = search (needs, unmapped) in matrix-length (c .args .a) long
 
 rows-few : (c : tie.Start) → length (rowsIn (c .args .core .now)) ≤ width
 rows-few c = let few = core-within (qubits (c .args .a)) (matrix (c .args .a)) (size c) in omega (arith, ap length (c .pre .1), few, qubits-le (c .args .a))
 
-qubits-of-requires : tie.Need-qubits-of-requires
-qubits-of-requires c κs = search needs
+capped-requires : tie.Need-capped-requires
+capped-requires c κs = search needs
 
 slice-aggregate-congruence-triangularize : tie.Need-slice-aggregate-congruence-triangularize
 slice-aggregate-congruence-triangularize c = search needs
@@ -82,7 +85,7 @@ returns-2 c =
     let s = start .args in
     let pre = start .pre in
     let o = c .before .before .before .before .before .before .before .before .before .before .before .congruence-triangularize in
-    let q = c .before .before .before .before .before .before .before .before .before .before .before .before .before .qubits-of .ensures in
+    let q = qubits-is (c .before .before .before .before .before .before .before .before .before .before .before .before .before) in
     let told : o .result .ending ≡ Found = search (needs, c .before .before .before .before .before .before .before .before .enum-told2 .given) in
     let e = c .before .before .multiplied .ensures in
     let zeros = rowsIn (replicate width 0) in
@@ -130,7 +133,7 @@ returns-4 c =
     let s = start .args in
     let pre = start .pre in
     let o = c .before .before .before .before .before .before .before .before .before .before .before .congruence-triangularize in
-    let q = c .before .before .before .before .before .before .before .before .before .before .before .before .before .qubits-of .ensures in
+    let q = qubits-is (c .before .before .before .before .before .before .before .before .before .before .before .before .before) in
     let b = c .before .before .before .before .before .before .before .bordered-list in
     let vs = rowsOf (b .result .list) in
     let e = c .before .before .stored .ensures in
@@ -141,7 +144,7 @@ pub from-core-spec : {M : Type 1} → statement M
 from-core-spec =
     tie.close
     (tie.spec
-    qubits-of-requires
+    capped-requires
     slice-aggregate-congruence-triangularize
     congruence-triangularize-requires
     enum-told

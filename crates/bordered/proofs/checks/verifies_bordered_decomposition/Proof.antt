@@ -2,7 +2,7 @@
 -- Assumes nothing.
 use Rattle.bordered.proofs.Verdicts.{chain, chain-left, chain-stops, list-tests}
 use Rattle.symplectic.specs.Matches.{sameRows, fitAll}
-use Rattle.actions.proofs.Arrays.{qubits-le}
+use Rattle.actions.proofs.Arrays.{qubits-le, qubits-capped}
 use Rattle.symplectic.specs.Turns.{allOf, product}
 use Rattle.actions.specs.Actions.{qubits, matrix}
 use Rattle.blocks.specs.Blocks.{rowsOf}
@@ -12,11 +12,14 @@ use lib.Dec.{eqb}
 use Prim.Native.Nat.{ℕ, suc, _+_}
 use mathlib.Core.List.{[], _∷_}
 use mathlib.Core.Bool.{not}
-use mathlib.Core.Path.{sym, ap, _∙_}
+use mathlib.Core.Path.{sym, ap, _∙_, _≡_}
 use native.Mathlib.Omega.{arith}
 use borrow.Author.Needs.{needs}
 use Rattle.bordered.proofs.checks.verifies_bordered_decomposition.Statement.{statement}
 use Rattle.bordered.proofs.checks.verifies_bordered_decomposition.Tie as tie
+
+qubits-is : (c : tie.After-capped) → c .capped .result ≡ qubits (c .before .before .before .before .before .before .args .a)
+qubits-is c = c .capped .ensures ∙ sym (qubits-capped (c .before .before .before .before .before .before .args .a))
 
 length-of-requires : tie.Need-length-of-requires
 length-of-requires c κs = search needs
@@ -51,11 +54,11 @@ returns-2 c =
     let G = sameRows (product n vs) F in
     chain-stops (A ∷ []) B (chain (D ∷ []) G) (sym (c .before .before .before .one-more .ensures ∙ ap (λ (m : ℕ). eqb m (suc (s .r))) (c .before .before .before .before .length-of .ensures)) ∙ not-false (c .before .before .before .one-more .result) (c .before .before .if1 .left), tt) (sym (c .before .none-zero .ensures) ∙ not-true (c .before .none-zero .result) (c .if2 .taken)) ∙ list-tests n F (s .r) vs
 
-qubits-of-requires : tie.Need-qubits-of-requires
-qubits-of-requires c κs = search needs
+capped-requires : tie.Need-capped-requires
+capped-requires c κs = search needs
 
 add-fit-all : tie.Need-add-fit-all
-add-fit-all c = omega (arith, qubits-le (c .before .before .before .before .before .before .args .a), c .qubits-of .ensures)
+add-fit-all c = omega (arith, qubits-le (c .before .before .before .before .before .before .args .a), qubits-is c)
 
 fit-all-requires : tie.Need-fit-all-requires
 fit-all-requires c κs = search needs
@@ -70,7 +73,7 @@ returns-3 c =
     let B = allOf (λ v. not (eqb v 0)) vs in
     let D = fitAll (n + n) vs in
     let G = sameRows (product n vs) F in
-    chain-stops (A ∷ B ∷ []) D G (sym (c .before .before .before .before .before .before .one-more .ensures ∙ ap (λ (m : ℕ). eqb m (suc (s .r))) (c .before .before .before .before .before .before .before .length-of .ensures)) ∙ not-false (c .before .before .before .before .before .before .one-more .result) (c .before .before .before .before .before .if1 .left), (sym (c .before .before .before .before .none-zero .ensures) ∙ not-false (c .before .before .before .before .none-zero .result) (c .before .before .before .if2 .left), tt)) (sym (c .before .fit-all .ensures ∙ ap (λ (m : ℕ). fitAll (m + m) vs) (c .before .before .qubits-of .ensures)) ∙ not-true (c .before .fit-all .result) (c .if3 .taken)) ∙ list-tests n F (s .r) vs
+    chain-stops (A ∷ B ∷ []) D G (sym (c .before .before .before .before .before .before .one-more .ensures ∙ ap (λ (m : ℕ). eqb m (suc (s .r))) (c .before .before .before .before .before .before .before .length-of .ensures)) ∙ not-false (c .before .before .before .before .before .before .one-more .result) (c .before .before .before .before .before .if1 .left), (sym (c .before .before .before .before .none-zero .ensures) ∙ not-false (c .before .before .before .before .none-zero .result) (c .before .before .before .if2 .left), tt)) (sym (c .before .fit-all .ensures ∙ ap (λ (m : ℕ). fitAll (m + m) vs) (qubits-is (c .before .before))) ∙ not-true (c .before .fit-all .result) (c .if3 .taken)) ∙ list-tests n F (s .r) vs
 
 is-product-requires : tie.Need-is-product-requires
 is-product-requires c κs = search needs
@@ -85,7 +88,7 @@ returns-4 c =
     let B = allOf (λ v. not (eqb v 0)) vs in
     let D = fitAll (n + n) vs in
     let G = sameRows (product n vs) F in
-    chain-left (A ∷ B ∷ D ∷ []) G (c .is-product .result) (sym (c .before .before .before .before .before .before .before .one-more .ensures ∙ ap (λ (m : ℕ). eqb m (suc (s .r))) (c .before .before .before .before .before .before .before .before .length-of .ensures)) ∙ not-false (c .before .before .before .before .before .before .before .one-more .result) (c .before .before .before .before .before .before .if1 .left), (sym (c .before .before .before .before .before .none-zero .ensures) ∙ not-false (c .before .before .before .before .before .none-zero .result) (c .before .before .before .before .if2 .left), (sym (c .before .before .fit-all .ensures ∙ ap (λ (m : ℕ). fitAll (m + m) vs) (c .before .before .before .qubits-of .ensures)) ∙ not-false (c .before .before .fit-all .result) (c .before .if3 .left), tt))) (c .is-product .ensures) ∙ list-tests n F (s .r) vs
+    chain-left (A ∷ B ∷ D ∷ []) G (c .is-product .result) (sym (c .before .before .before .before .before .before .before .one-more .ensures ∙ ap (λ (m : ℕ). eqb m (suc (s .r))) (c .before .before .before .before .before .before .before .before .length-of .ensures)) ∙ not-false (c .before .before .before .before .before .before .before .one-more .result) (c .before .before .before .before .before .before .if1 .left), (sym (c .before .before .before .before .before .none-zero .ensures) ∙ not-false (c .before .before .before .before .before .none-zero .result) (c .before .before .before .before .if2 .left), (sym (c .before .before .fit-all .ensures ∙ ap (λ (m : ℕ). fitAll (m + m) vs) (qubits-is (c .before .before .before))) ∙ not-false (c .before .before .fit-all .result) (c .before .if3 .left), tt))) (c .is-product .ensures) ∙ list-tests n F (s .r) vs
 
 pub verifies-bordered-decomposition-spec : {M : Type 1} → statement M
 verifies-bordered-decomposition-spec =
@@ -96,7 +99,7 @@ verifies-bordered-decomposition-spec =
     returns
     none-zero-requires
     returns-2
-    qubits-of-requires
+    capped-requires
     add-fit-all
     fit-all-requires
     returns-3
