@@ -3,22 +3,18 @@
 use mathlib.Core.Path.{_≡_, sym, ap, ap₂, _∙_}
 use mathlib.Core.List.{List, map}
 use Prim.Native.Nat.{ℕ, _+_, _%_, _≤_}
-use native.Mathlib.Nat.{le-refl}
-use native.Mathlib.Omega.{arith}
 use lib.ListN.{length, take, drop, length-map}
-use lib.Seq.{take-all}
 use Rattle.binar.specs.Rows.{width, rowBound}
 use Rattle.blocks.specs.Blocks.{room}
 use Rattle.blocks.specs.Words.{over}
 use Rattle.blocks.proofs.All.{All·right}
-use Rattle.blocks.proofs.Overs.{over-same}
 use Rattle.symplectic.specs.Turns.{identityPlus}
 use Rattle.symplectic.proofs.Lists.{map-eq}
 use Rattle.reduction.specs.Columns.{rows, rowReduceWithTransform, rank, fitting}
 use Rattle.reduction.specs.inner.Sweeps.{ReducedIn}
-use Rattle.reduction.proofs.InPlace.{fitting-front}
+use Rattle.reduction.proofs.InPlace.{rank-whole, rows-whole}
 use Rattle.reduction.proofs.Parts.{front, back, uncut}
-use Rattle.reduction.proofs.Transform.{transform-length, up-rank}
+use Rattle.reduction.proofs.Transform.{up-rank}
 use Rattle.fixed_space.specs.FixedSpace.{kernel, reducedBasis, fixedSpace}
 
 -- the kernel is the transform from the rank on, of which no row is cut
@@ -31,24 +27,16 @@ kernel-end m p M R T ps w done =
 
 -- the reduced basis is the rows up to the rank, where there are at least as many for the transform and a block has room for them
 module _ (m p : ℕ) (M T : List ℕ) (enough : length M ≤ length T) (few : length M ≤ room) (ranked : p ≡ rank m (fitting M T)) where
-  abbrev first : List ℕ → List ℕ
-  first l = map (λ a. a .0) (rows (rowReduceWithTransform m l))
-
-  whole : fitting M T ≡ M
-  whole = sym (fitting-front M T (length M) (omega arith)) ∙ take-all (length M) M (le-refl (length M))
-
-  rank-is : p ≡ rank m M
-  rank-is = ranked ∙ ap (rank m) whole
-
   pub basis-count : p ≡ length (reducedBasis m M)
   unfolding reducedBasis
-  basis-count = let h = rowReduceWithTransform m M in rank-is ∙ sym (length-map (h .up) (λ a. a .0) ∙ up-rank m M)
+  basis-count =
+      let h = rowReduceWithTransform m M in
+      rank-whole m M T enough few p ranked ∙ sym (length-map (h .up) (λ a. a .0) ∙ up-rank m M)
 
-  pub basis-end : (R : List ℕ) → R ≡ over (first (fitting M T)) M → take p R ≡ reducedBasis m M
+  pub basis-end : (R : List ℕ) → R ≡ over (map (λ a. a .0) (rows (rowReduceWithTransform m (fitting M T)))) M → take p R ≡ reducedBasis m M
   unfolding reducedBasis
   basis-end R reduced =
-      let size = length-map (rows (rowReduceWithTransform m M)) (λ a. a .0) ∙ transform-length m M in
-      ap (take p) (reduced ∙ ap (λ (l : List ℕ). over (first l) M) whole ∙ over-same (first M) M size) ∙ front m M (λ a. a .0) p rank-is
+      ap (take p) (rows-whole m M T enough few R reduced) ∙ front m M (λ a. a .0) p (rank-whole m M T enough few p ranked)
 
 -- the reduced basis of the kernel of I + F
 pub fixed-is : (q m : ℕ) (F M K : List ℕ) → m ≡ q + q → M ≡ identityPlus q F → K ≡ kernel m M → reducedBasis m K ≡ fixedSpace q F

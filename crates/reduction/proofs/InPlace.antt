@@ -19,24 +19,27 @@ pub fitting-front : (A T : List ℕ) (k : ℕ) → k ≡ min room (min (length A
 unfolding fitting
 fitting-front A T k e = ap (λ (n : ℕ). take n A) e
 
--- all of them
-fitting-whole : (A T : List ℕ) → length A ≡ length T → length A ≤ room → fitting A T ≡ A
-unfolding fitting
-fitting-whole A T e h = take-all (min room (min (length A) (length T))) A (omega arith)
-
--- what was reduced in place is all of M
-module _ (m p : ℕ) (M T₀ R T : List ℕ) (even : length M ≡ length T₀) (few : length M ≤ room) where
+-- all of them, where there are at least as many for the transform and a block has room for them
+module _ (m : ℕ) (M T₀ : List ℕ) (enough : length M ≤ length T₀) (few : length M ≤ room) where
   abbrev all : List ℕ → List (ℕ × ℕ)
   all l = rows (rowReduceWithTransform m l)
 
-  pub reduced-whole : p ≡ rank m (fitting M T₀) → R ≡ over (map (λ x. x .0) (all (fitting M T₀))) M → T ≡ over (map (λ x. x .1 % rowBound) (all (fitting M T₀))) T₀
-      → ReducedIn m M p R T (rowReduceWithTransform m M .pivots)
-  reduced-whole ranked reduced transformed =
-      let is = fitting-whole M T₀ even few in
-      let size = transform-length m M in (
-        ranked ∙ ap (rank m) is,
-        reduced ∙ ap (λ (l : List ℕ). over (map (λ x. x .0) (all l)) M) is ∙ over-same (map (λ x. x .0) (all M)) M (length-map (all M) (λ x. x .0) ∙ size),
-        transformed ∙ ap (λ (l : List ℕ). over (map (λ x. x .1 % rowBound) (all l)) T₀) is
-            ∙ over-same (map (λ x. x .1 % rowBound) (all M)) T₀ (length-map (all M) (λ x. x .1 % rowBound) ∙ size ∙ even),
-        refl,
-      )
+  whole : fitting M T₀ ≡ M
+  unfolding fitting
+  whole = take-all (min room (min (length M) (length T₀))) M (omega arith)
+
+  pub rank-whole : (p : ℕ) → p ≡ rank m (fitting M T₀) → p ≡ rank m M
+  rank-whole p ranked = ranked ∙ ap (rank m) whole
+
+  -- put back over as many rows
+  back : (f : ℕ × ℕ → ℕ) (R out : List ℕ) → length M ≡ length out → R ≡ over (map f (all (fitting M T₀))) out → R ≡ map f (all M)
+  back f R out e is =
+      is ∙ ap (λ (l : List ℕ). over (map f (all l)) out) whole ∙ over-same (map f (all M)) out (length-map (all M) f ∙ transform-length m M ∙ e)
+
+  pub rows-whole : (R : List ℕ) → R ≡ over (map (λ x. x .0) (all (fitting M T₀))) M → R ≡ map (λ x. x .0) (all M)
+  rows-whole R is = back (λ x. x .0) R M refl is
+
+  pub reduced-whole : (p : ℕ) (R T : List ℕ) → length M ≡ length T₀ → p ≡ rank m (fitting M T₀) → R ≡ over (map (λ x. x .0) (all (fitting M T₀))) M
+      → T ≡ over (map (λ x. x .1 % rowBound) (all (fitting M T₀))) T₀ → ReducedIn m M p R T (rowReduceWithTransform m M .pivots)
+  reduced-whole p R T even ranked reduced transformed =
+      (rank-whole p ranked, rows-whole R reduced, back (λ x. x .1 % rowBound) T T₀ even transformed, refl)

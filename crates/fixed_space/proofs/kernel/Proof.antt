@@ -24,7 +24,7 @@ returns c =
     let M = rowsIn (s .rows .now) in
     let r = c .before .before .before .before .row-reduce in
     kernel-end (s .m) (r .result) M _ _ _ (start .pre .1)
-    (reduced-whole (s .m) (r .result) M (rowsIn (s .transform .now)) _ _ (start .pre .0) (omega (arith, start .pre .1)) (r .ensures .0) (r .ensures .1 .0) (r .ensures .1 .1))
+    (reduced-whole (s .m) M (rowsIn (s .transform .now)) (omega (arith, start .pre .0)) (omega (arith, start .pre .1)) (r .result) _ _ (start .pre .0) (r .ensures .0) (r .ensures .1 .0) (r .ensures .1 .1))
 
 pub kernel-spec : {M : Type 1} → statement M
 kernel-spec = tie.close (tie.spec row-reduce-requires same-length same-length-2 returns)

@@ -44,7 +44,7 @@ done c =
     let put = c .before .before .before .before .before .put-plus in
     let r = c .row-reduce in
     let long = lent-same (put .last .1 .1 .0) (s .rows .now) (put .kept .1 .1 .0) ∙ start .pre .0 in
-    reduced-whole (n + n) (r .result) _ (rowsIn (s .transform .now)) _ _ (long ∙ sym (start .pre .1)) (omega (arith, long, qubits-le (s .a))) (r .ensures .0) (r .ensures .1 .0) (r .ensures .1 .1)
+    reduced-whole (n + n) _ (rowsIn (s .transform .now)) (omega (arith, long, start .pre .1)) (omega (arith, long, qubits-le (s .a))) (r .result) _ _ (long ∙ sym (start .pre .1)) (r .ensures .0) (r .ensures .1 .0) (r .ensures .1 .1)
 
 capped-requires : tie.Need-capped-requires
 capped-requires c κs = search needs
