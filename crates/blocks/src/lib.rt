@@ -8,7 +8,7 @@ ghost use lib.ListN.{length, getD, set, take};
 ghost use Rattle.binar.specs.Rows.{val};
 ghost use Rattle.blocks.specs.Blocks.{room, rowsOf};
 ghost use Rattle.blocks.specs.Matrices.{times as timesOf, matmul};
-ghost use Rattle.blocks.specs.Words.{rowsOfWords, wordOf, laid, rowsIn, wordsFor};
+ghost use Rattle.blocks.specs.Words.{rowsOfWords, wordOf, laid, rowsIn, wordsFor, over};
 
 // How many rows a block has room for.
 pub const ROOM: usize = 65;
@@ -136,5 +136,15 @@ pub fn lay(n: u64, w: &[u64], out: &mut [u64])
     let k = lesser(rows_in(w), out.len());
     for i in 0..k {
         out[i] = word(row(w, i));
+    }
+}
+
+// Puts the first k of such rows over others from their start.
+pub fn put_front(k: usize, w: &[u64], out: &mut [u64])
+    ensures { λ _. ⌜ rowsIn (now (out .exit)) ≡ over (take k (rowsIn (now (w .entry)))) (rowsIn (now (out .entry))) ⌝ }
+{
+    let m = lesser(lesser(k, rows_in(w)), rows_in(out));
+    for i in 0..m {
+        put(out, i, row(w, i));
     }
 }
