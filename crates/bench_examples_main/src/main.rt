@@ -81,20 +81,22 @@ fn print_first(k: usize, rows: &[u64]) {
     print_rows(&rows[..n]);
 }
 
-// The reduction of the residue of an action on 2 qubits, which has 4 columns.
+// The reduction of the residue of an action on 2 qubits, which has 4 rows and 4 columns.
 fn reduced(name: &[u8], rows: &[u64]) {
-    let a = actions::from_words(2, rows);
-    let r = reduction::row_reduce_with_transform(4, residue::residue(a));
+    let mut w = [0u64; 4];
+    let mut t = [0u64; 4];
+    let mut p = [0; 4];
+    residue::residue(actions::from_words(2, rows), &mut w);
+    let rank = reduction::row_reduce_with_transform(4, &mut w, &mut t, &mut p);
     io::write_all(STDOUT_FILENO, name);
     io::write_all(STDOUT_FILENO, b": rank ");
-    io::print_decimal(STDOUT_FILENO, r.rank as u64);
+    io::print_decimal(STDOUT_FILENO, rank as u64);
     io::write_all(STDOUT_FILENO, b", pivots");
-    let p = r.pivots;
     let pivots = [p[0] as u64, p[1] as u64, p[2] as u64, p[3] as u64];
-    print_first(r.rank, &pivots);
+    print_first(rank, &pivots);
     io::write_all(STDOUT_FILENO, b", rows");
     let mut out = [0u64; 4];
-    blocks::store(2, r.rows, &mut out);
+    blocks::lay(2, &w, &mut out);
     print_rows(&out);
     io::write_all(STDOUT_FILENO, b"\n");
 }

@@ -5,7 +5,6 @@ use mathlib.Core.List.{List, map}
 use Prim.Native.Nat.{ℕ, _+_, _%_, _≤_}
 use lib.ListN.{length, take, drop, length-map}
 use Rattle.binar.specs.Rows.{width, rowBound}
-use Rattle.blocks.specs.Blocks.{room}
 use Rattle.blocks.specs.Words.{over}
 use Rattle.blocks.proofs.All.{All·right}
 use Rattle.symplectic.specs.Turns.{identityPlus}
@@ -25,18 +24,18 @@ kernel-end m p M R T ps w done =
     ap (drop p) (done .2) ∙ back m M (λ a. a .1 % rowBound) p (done .0)
     ∙ map-eq (λ a. a .1 % rowBound) (λ a. a .1) (h .down) (All·right (λ a. a .1 % rowBound ≡ a .1) (h .up) (h .down) (uncut m M w))
 
--- the reduced basis is the rows up to the rank, where there are at least as many for the transform and a block has room for them
-module _ (m p : ℕ) (M T : List ℕ) (enough : length M ≤ length T) (few : length M ≤ room) (ranked : p ≡ rank m (fitting M T)) where
+-- the reduced basis is the rows up to the rank, where there are at least as many for the transform and as many pivots
+module _ (m p : ℕ) (M T ps : List ℕ) (enough : length M ≤ length T) (few : length M ≤ length ps) (ranked : p ≡ rank m (fitting M T ps)) where
   pub basis-count : p ≡ length (reducedBasis m M)
   unfolding reducedBasis
   basis-count =
       let h = rowReduceWithTransform m M in
-      rank-whole m M T enough few p ranked ∙ sym (length-map (h .up) (λ a. a .0) ∙ up-rank m M)
+      rank-whole m M T ps enough few p ranked ∙ sym (length-map (h .up) (λ a. a .0) ∙ up-rank m M)
 
-  pub basis-end : (R : List ℕ) → R ≡ over (map (λ a. a .0) (rows (rowReduceWithTransform m (fitting M T)))) M → take p R ≡ reducedBasis m M
+  pub basis-end : (R : List ℕ) → R ≡ over (map (λ a. a .0) (rows (rowReduceWithTransform m (fitting M T ps)))) M → take p R ≡ reducedBasis m M
   unfolding reducedBasis
   basis-end R reduced =
-      ap (take p) (rows-whole m M T enough few R reduced) ∙ front m M (λ a. a .0) p (rank-whole m M T enough few p ranked)
+      ap (take p) (rows-whole m M T ps enough few R reduced) ∙ front m M (λ a. a .0) p (rank-whole m M T ps enough few p ranked)
 
 -- the reduced basis of the kernel of I + F
 pub fixed-is : (q m : ℕ) (F M K : List ℕ) → m ≡ q + q → M ≡ identityPlus q F → K ≡ kernel m M → reducedBasis m K ≡ fixedSpace q F

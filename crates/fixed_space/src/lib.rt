@@ -7,7 +7,6 @@ ghost use mathlib.Core.Path.{_≡_};
 ghost use Prim.Native.Nat.{_≤_};
 ghost use lib.ListN.{length, drop};
 ghost use Rattle.binar.specs.Rows.{width};
-ghost use Rattle.blocks.specs.Blocks.{room};
 ghost use Rattle.blocks.specs.Words.{rowsIn, laid as laidOf};
 ghost use Rattle.actions.specs.Actions.{qubits, matrix};
 ghost use Rattle.questions.specs.Answers.{figuresOf};
@@ -19,16 +18,18 @@ fn kernel(m: usize, rows: &mut [u64], transform: &mut [u64]) -> usize
     requires { ⌜ (length (rowsIn (now rows)) ≡ length (rowsIn (now transform))) × (length (rowsIn (now rows)) ≤ width) ⌝ }
     ensures { λ r. ⌜ drop r (rowsIn (now (transform .exit))) ≡ kernelOf m (rowsIn (now (rows .entry))) ⌝ }
 {
-    reduction::row_reduce(m, rows, transform)
+    let mut pivots = [0; MOST_ROWS];
+    reduction::row_reduce_with_transform(m, rows, transform, &mut pivots)
 }
 
 // Lays the reduced basis of what the rows span, as rows of n qubits, into lent words; answers how many. They are reduced in place, and nothing reads the transform.
 fn lay_basis(n: u64, m: usize, rows: &mut [u64], transform: &mut [u64], out: &mut [u64]) -> usize
-    requires { ⌜ (length (rowsIn (now rows)) ≤ length (rowsIn (now transform))) × (length (rowsIn (now rows)) ≤ room) ⌝ }
+    requires { ⌜ (length (rowsIn (now rows)) ≤ length (rowsIn (now transform))) × (length (rowsIn (now rows)) ≤ width) ⌝ }
     ensures counted { λ r. ⌜ r ≡ length (reducedBasis m (rowsIn (now (rows .entry)))) ⌝ }
     ensures laid { λ r. ⌜ now (out .exit) ≡ laidOf n (reducedBasis m (rowsIn (now (rows .entry)))) (now (out .entry)) ⌝ }
 {
-    let r = reduction::row_reduce(m, rows, transform);
+    let mut pivots = [0; MOST_ROWS];
+    let r = reduction::row_reduce_with_transform(m, rows, transform, &mut pivots);
     let to = blocks::start(rows, r);
     blocks::lay(n, &rows[..to], out);
     r

@@ -1,14 +1,14 @@
--- One turn of a loop, and its end: the search of a column's first row, the reduction's two lists.
+-- One turn of a loop, and its end: the search of a column's first row, the pivots, the reduction's two lists.
 -- Assumes nothing.
 use mathlib.Core.Path.{_≡_, sym, ap, _∙_, subst}
 use mathlib.Core.Bool.{Bool, false}
 use mathlib.Core.List.{List, _++_, map, zip}
 use mathlib.Core.Logic.{⊎-elim}
-use Prim.Native.Nat.{ℕ, _+_, _≤_, _<_}
+use Prim.Native.Nat.{ℕ, _+_, _-_, _≤_, _<_}
 use native.Mathlib.Omega.{arith}
 use native.Mathlib.Nat.{eq-or-lt-of-le}
-use lib.ListN.{length, take, take-append-drop}
-use lib.Seq.{take-all, take-length, length-take-le}
+use lib.ListN.{length, take, drop, take-append-drop}
+use lib.Seq.{take-all, take-length, length-take-le, drop-drop}
 use Rattle.reduction.specs.Columns.{Echelon}
 use Rattle.reduction.specs.inner.Sweeps.{halves}
 use Rattle.reduction.proofs.TwoLists.{zip-length, above-left, above-right}
@@ -18,6 +18,15 @@ use Rattle.reduction.proofs.TwoLists.{zip-length, above-left, above-rig
 -- none before, nor here
 pub none-more : (has : ℕ → Bool) (p i : ℕ) → ((x : ℕ) → p ≤ x → x < i → has x ≡ false) → has i ≡ false → (x : ℕ) → p ≤ x → x < i + 1 → has x ≡ false
 none-more has p i f e x a l = ⊎-elim (λ q. ap has q ∙ e) (λ q. f x a q) (eq-or-lt-of-le (omega arith))
+
+-- ---- the numbers behind the pivots
+
+-- as they were from p on, then as they were then from r on
+pub behind-kept : (p r : ℕ) (xs ys zs : List ℕ) → p ≤ r → drop p ys ≡ drop p xs → drop r zs ≡ drop r ys → drop r zs ≡ drop r xs
+behind-kept p r xs ys zs h e f =
+    let all : p + (r - p) ≡ r = omega arith in
+    let at : (l : List ℕ) → drop r l ≡ drop (r - p) (drop p l) = λ l. sym (drop-drop (r - p) p l ∙ ap (λ (k : ℕ). drop k l) all) in
+    f ∙ at ys ∙ ap (drop (r - p)) e ∙ sym (at xs)
 
 -- ---- the two lists at the end
 

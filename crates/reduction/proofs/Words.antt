@@ -6,7 +6,6 @@ use Prim.Native.Nat.{ℕ, _-_, _≤_, min}
 use native.Mathlib.Omega.{arith}
 use lib.ListN.{length, take, drop, replicate, length-append, length-drop, take-append-drop}
 use lib.Seq.{take-all, take-at, drop-at}
-use Rattle.blocks.specs.Blocks.{room}
 use Rattle.blocks.specs.Words.{rowsIn, wordsFor, over}
 use Rattle.blocks.proofs.Lent.{lent-within, lent-front, lent-rest, lent-same}
 use Rattle.blocks.proofs.Overs.{over-end}
@@ -36,10 +35,6 @@ module _ (k most to : ℕ) (at : to ≡ min (wordsFor k) (length {A = ℕ} (repl
 
     pub left-count : to ≡ length (take to (left ++ drop to words))
     left-count = sym (ap length left-part ∙ kept ∙ sym lent-count)
-
-    -- its rows, where a block has room for them
-    pub left-rows : k ≤ most → k ≤ room → take room (rowsIn (take to (left ++ drop to words))) ≡ rowsIn left
-    left-rows fits h = ap (λ (l : List ℕ). take room (rowsIn l)) left-part ∙ take-all room (rowsIn left) (omega (arith, lent-same left (take to words) kept, lent-rows fits))
 
 -- ---- lent words, of which `to` words hold the first k rows
 

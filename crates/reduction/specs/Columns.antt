@@ -6,7 +6,6 @@ use mathlib.Core.List.{List, [], _∷_, _++_, map, zip}
 use Prim.Native.Nat.{ℕ, zero, suc, min}
 use lib.ListN.{length, take}
 use Rattle.binar.specs.Bits.{select, bit}
-use Rattle.blocks.specs.Blocks.{room}
 use Rattle.blocks.specs.Matrices.{units}
 use Rattle.symplectic.specs.Picks.{addBoth}
 
@@ -77,6 +76,6 @@ rowReduceWithTransform m M = columns (0, 0) addBoth (λ c a. bit c (a .0)) m 0 (
 unfoldable pub rank : ℕ → List ℕ → ℕ
 rank m M = length (rowReduceWithTransform m M .pivots)
 
--- the rows of A that are reduced in place, with the transform in the rows of T: as many as both have, and a block has room for
-unfoldable pub fitting : List ℕ → List ℕ → List ℕ
-fitting A T = take (min room (min (length A) (length T))) A
+-- the rows of A that are reduced in place, with the transform in the rows of T and the pivots in ps: as many as all three have
+unfoldable pub fitting : List ℕ → List ℕ → List ℕ → List ℕ
+fitting A T ps = take (min (length ps) (min (length A) (length T))) A

@@ -1,16 +1,11 @@
--- What a reduction of the code says of its pivots, and what it promises of them: the columns that carried the rank. Rows that are reduced.
+-- What a reduction promises of its pivots, the columns that carried the rank. Rows that are reduced.
 -- Assumes nothing.
 use mathlib.Core.Path.{_≡_}
 use mathlib.Core.Bool.{true, false}
 use mathlib.Core.List.{List}
 use Prim.Native.Nat.{ℕ, _<_}
-use lib.ListN.{length, take, getD}
+use lib.ListN.{length, getD}
 use Rattle.binar.specs.Bits.{bit}
-use Rattle.reduction.specs.declared.Reduction.{Reduction}
-
--- as many as the rank
-unfoldable pub pivotsOf : Reduction → List ℕ
-pivotsOf r = take (r .rank) (r .pivots)
 
 -- for each i below the rank, row i has its first one (its lowest column) at pivot i
 abbrev pub FirstOnes : ℕ → List ℕ → List ℕ → Type 0

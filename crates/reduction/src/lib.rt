@@ -1,32 +1,19 @@
 // Reduction by columns: rows with their transform, the rank and the pivots.
 // In the source: transvection_exact.rs, `row_reduce_with_transform`.
 use binar::Row;
-use blocks::Block;
-use blocks::ROOM;
-use symplectic::MAX_QUBITS;
 ghost use mathlib.Core.Path.{_≡_};
 ghost use mathlib.Core.Bool.{true, false};
 ghost use mathlib.Core.List.{map, zip};
 ghost use Prim.Native.Nat.{ℕ, _%_, _≤_, _<_};
-ghost use lib.ListN.{getD, take, length};
+ghost use lib.ListN.{getD, take, drop, length};
 ghost use Rattle.binar.specs.Bits.{bit as bitOf};
 ghost use Rattle.binar.specs.Rows.{val, rowBound};
-ghost use Rattle.blocks.specs.Blocks.{rowsOf};
 ghost use Rattle.blocks.specs.Matrices.{units, All};
 ghost use Rattle.blocks.specs.Words.{rowsIn, over};
 ghost use Rattle.symplectic.specs.Picks.{addBoth};
 ghost use Rattle.reduction.specs.Columns.{unreduced, rows as allRows, column, columns, rank as rankOf, rowReduceWithTransform, fitting};
-ghost use Rattle.reduction.specs.Pivots.{pivotsOf, FirstOnes, NoOtherOnes, Ascending};
+ghost use Rattle.reduction.specs.Pivots.{FirstOnes, NoOtherOnes, Ascending};
 ghost use Rattle.reduction.specs.inner.Sweeps.{halves, swapped, cleared, swept, ReducedIn};
-
-// A matrix reduced: its rows and those of the transform in their final order. The first `rank` rows are the basis, and the first `rank`
-// pivots the columns that carried it, ascending.
-pub struct Reduction {
-    pub rows: Block,
-    pub transform: Block,
-    pub pivots: [usize; ROOM],
-    pub rank: usize,
-}
 
 // The first row from p on that has column c; the count where there is none.
 fn first_with(a: &[u64], c: usize, p: usize) -> usize
@@ -83,7 +70,7 @@ fn sweep(c: usize, p: usize, a: &mut [u64], t: &mut [u64])
 // Column c: the first row from p on that has it is exchanged up, then cleared from every other row. Answers where the pivot row is next.
 fn by_column(c: usize, p: usize, a: &mut [u64], t: &mut [u64], pivots: &mut [usize]) -> usize
     requires { ⌜ (length (rowsIn (now a)) ≡ length (rowsIn (now t))) × (p ≤ length (rowsIn (now a))) × (length (rowsIn (now a)) ≤ length (now pivots)) ⌝ }
-    ensures { λ r. ⌜ (r ≤ length (rowsIn (now (a .entry))))
+    ensures { λ r. ⌜ (p ≤ r) × (r ≤ length (rowsIn (now (a .entry)))) × (drop r (now (pivots .exit)) ≡ drop r (now (pivots .entry)))
         × (halves r (take r (now (pivots .exit))) (zip (rowsIn (now (a .exit))) (rowsIn (now (t .exit))))
         ≡ column (0, 0) addBoth c (λ x. bitOf c (x .0)) (halves p (take p (now (pivots .entry))) (zip (rowsIn (now (a .entry))) (rowsIn (now (t .entry)))))) ⌝ }
 {
@@ -101,7 +88,7 @@ fn by_column(c: usize, p: usize, a: &mut [u64], t: &mut [u64], pivots: &mut [usi
 // The first m columns, one after the other; answers the rank.
 fn by_columns(m: usize, a: &mut [u64], t: &mut [u64], pivots: &mut [usize]) -> usize
     requires { ⌜ (length (rowsIn (now a)) ≡ length (rowsIn (now t))) × (length (rowsIn (now a)) ≤ length (now pivots)) ⌝ }
-    ensures { λ r. ⌜ (r ≤ length (rowsIn (now (a .entry))))
+    ensures { λ r. ⌜ (r ≤ length (rowsIn (now (a .entry)))) × (drop r (now (pivots .exit)) ≡ drop r (now (pivots .entry)))
         × (halves r (take r (now (pivots .exit))) (zip (rowsIn (now (a .exit))) (rowsIn (now (t .exit))))
         ≡ columns (0, 0) addBoth (λ c x. bitOf c (x .0)) m 0 (unreduced (zip (rowsIn (now (a .entry))) (rowsIn (now (t .entry)))))) ⌝ }
 {
@@ -122,92 +109,38 @@ fn put_units(t: &mut [u64])
     }
 }
 
-// Reduces the rows of a by their first m columns, with the transform in t; answers the rank.
+// Reduces the rows of a by their first m columns, with the transform in t; answers the rank. Numbers behind the pivots stay as they were.
 fn reduce(m: usize, a: &mut [u64], t: &mut [u64], pivots: &mut [usize]) -> usize
     requires { ⌜ (length (rowsIn (now a)) ≡ length (rowsIn (now t))) × (length (rowsIn (now a)) ≤ length (now pivots)) ⌝ }
-    ensures { λ r. ⌜ ReducedIn m (rowsIn (now (a .entry))) r (rowsIn (now (a .exit))) (rowsIn (now (t .exit))) (take r (now (pivots .exit))) ⌝ }
+    ensures { λ r. ⌜ ReducedIn m (rowsIn (now (a .entry))) r (rowsIn (now (a .exit))) (rowsIn (now (t .exit))) (take r (now (pivots .exit)))
+        × (drop r (now (pivots .exit)) ≡ drop r (now (pivots .entry))) ⌝ }
 {
     put_units(t);
     by_columns(m, a, t, pivots)
 }
 
-// Puts the rows of a block.
-fn put_block(b: Block, w: &mut [u64])
-    requires { ⌜ length (rowsIn (now w)) ≡ length (rowsOf b) ⌝ }
-    ensures { λ _. ⌜ rowsIn (now (w .exit)) ≡ rowsOf b ⌝ }
-{
-    let k = blocks::rows_in(w);
-    for i in 0..k {
-        blocks::put(w, i, b.rows[i]);
-    }
-}
-
-// A block's rows reduced in lent words.
-fn reduce_block(
+// The rows of a reduced in place by their first m columns, with the transform, as far as a row of it has columns, in t and the pivots in `pivots`; answers the rank.
+// As many rows as all three have.
+pub fn row_reduce_with_transform(
     m: usize,
-    matrix: Block,
     a: &mut [u64],
     t: &mut [u64],
     pivots: &mut [usize],
 ) -> usize
-    requires { ⌜ (length (rowsIn (now a)) ≡ length (rowsOf matrix)) × (length (rowsIn (now t)) ≡ length (rowsOf matrix)) × (length (rowsOf matrix) ≤ length (now pivots)) ⌝ }
-    ensures { λ r. ⌜ ReducedIn m (rowsOf matrix) r (rowsIn (now (a .exit))) (rowsIn (now (t .exit))) (take r (now (pivots .exit))) ⌝ }
-{
-    put_block(matrix, a);
-    reduce(m, a, t, pivots)
-}
-
-// The rows of a matrix reduced by its first m columns, with the transform, as far as a row of it has columns, and the pivots.
-pub fn row_reduce_with_transform(m: usize, matrix: Block) -> Reduction
-    ensures reduced { λ r. ⌜ rowsOf (r .rows) ≡ map (λ a. a .0) (allRows (rowReduceWithTransform m (rowsOf matrix))) ⌝ }
-    ensures transformed { λ r. ⌜ rowsOf (r .transform) ≡ map (λ a. a .1 % rowBound) (allRows (rowReduceWithTransform m (rowsOf matrix))) ⌝ }
-    ensures counted { λ r. ⌜ (r .rank ≡ rankOf m (rowsOf matrix)) × (length (pivotsOf r) ≡ r .rank) ⌝ }
-    ensures pivoted { λ r. ⌜ pivotsOf r ≡ rowReduceWithTransform m (rowsOf matrix) .pivots ⌝ }
-    ensures first_ones { λ r. ⌜ FirstOnes (r .rank) (pivotsOf r) (rowsOf (r .rows)) ⌝ }
-    ensures no_other_ones { λ r. ⌜ NoOtherOnes (r .rank) (pivotsOf r) (rowsOf (r .rows)) ⌝ }
-    ensures ascending { λ r. ⌜ Ascending (r .rank) (pivotsOf r) ⌝ }
-    ensures within { λ r. ⌜ All (λ p. p < m) (pivotsOf r) ⌝ }
-{
-    let mut rows = [0u64; ROOM];
-    let mut transform = [0u64; ROOM];
-    let mut pivots = [0; ROOM];
-    let to = blocks::start(&rows, blocks::length_of(matrix));
-    let rank = reduce_block(
-        m,
-        matrix,
-        &mut rows[..to],
-        &mut transform[..to],
-        &mut pivots,
-    );
-    Reduction {
-        rows: blocks::from_words(MAX_QUBITS, &rows[..to]),
-        transform: blocks::from_words(MAX_QUBITS, &transform[..to]),
-        pivots: pivots,
-        rank: rank,
-    }
-}
-
-pub fn rank(m: usize, matrix: Block) -> usize
-    ensures { λ r. ⌜ r ≡ rankOf m (rowsOf matrix) ⌝ }
-{
-    let mut a = [0u64; ROOM];
-    let mut t = [0u64; ROOM];
-    let mut pivots = [0; ROOM];
-    let to = blocks::start(&a, blocks::length_of(matrix));
-    reduce_block(m, matrix, &mut a[..to], &mut t[..to], &mut pivots)
-}
-
-// The rows of a reduced in place by their first m columns, with the transform in t; answers the rank. As many rows as both have, and a block has room for.
-pub fn row_reduce(m: usize, a: &mut [u64], t: &mut [u64]) -> usize
-    ensures ranked { λ r. ⌜ r ≡ rankOf m (fitting (rowsIn (now (a .entry))) (rowsIn (now (t .entry)))) ⌝ }
+    ensures ranked { λ r. ⌜ r ≡ rankOf m (fitting (rowsIn (now (a .entry))) (rowsIn (now (t .entry))) (now (pivots .entry))) ⌝ }
     ensures reduced { λ r. ⌜ rowsIn (now (a .exit))
-        ≡ over (map (λ x. x .0) (allRows (rowReduceWithTransform m (fitting (rowsIn (now (a .entry))) (rowsIn (now (t .entry))))))) (rowsIn (now (a .entry))) ⌝ }
+        ≡ over (map (λ x. x .0) (allRows (rowReduceWithTransform m (fitting (rowsIn (now (a .entry))) (rowsIn (now (t .entry))) (now (pivots .entry)))))) (rowsIn (now (a .entry))) ⌝ }
     ensures transformed { λ r. ⌜ rowsIn (now (t .exit))
-        ≡ over (map (λ x. x .1 % rowBound) (allRows (rowReduceWithTransform m (fitting (rowsIn (now (a .entry))) (rowsIn (now (t .entry))))))) (rowsIn (now (t .entry))) ⌝ }
+        ≡ over (map (λ x. x .1 % rowBound) (allRows (rowReduceWithTransform m (fitting (rowsIn (now (a .entry))) (rowsIn (now (t .entry))) (now (pivots .entry)))))) (rowsIn (now (t .entry))) ⌝ }
+    ensures pivoted { λ r. ⌜ now (pivots .exit) ≡ over (rowReduceWithTransform m (fitting (rowsIn (now (a .entry))) (rowsIn (now (t .entry))) (now (pivots .entry))) .pivots) (now (pivots .entry)) ⌝ }
+    ensures first_ones { λ r. ⌜ FirstOnes r (take r (now (pivots .exit))) (take (length (fitting (rowsIn (now (a .entry))) (rowsIn (now (t .entry))) (now (pivots .entry)))) (rowsIn (now (a .exit)))) ⌝ }
+    ensures no_other_ones { λ r. ⌜ NoOtherOnes r (take r (now (pivots .exit))) (take (length (fitting (rowsIn (now (a .entry))) (rowsIn (now (t .entry))) (now (pivots .entry)))) (rowsIn (now (a .exit)))) ⌝ }
+    ensures ascending { λ r. ⌜ Ascending r (take r (now (pivots .exit))) ⌝ }
+    ensures within { λ r. ⌜ All (λ p. p < m) (take r (now (pivots .exit))) ⌝ }
 {
-    let mut pivots = [0; ROOM];
-    let k = blocks::lesser(ROOM, blocks::lesser(blocks::rows_in(a), blocks::rows_in(t)));
+    let both = blocks::lesser(blocks::rows_in(a), blocks::rows_in(t));
+    let k = blocks::lesser(pivots.len(), both);
     let to = blocks::start(a, k);
     let until = blocks::start(t, k);
-    reduce(m, &mut a[..to], &mut t[..until], &mut pivots)
+    reduce(m, &mut a[..to], &mut t[..until], pivots)
 }

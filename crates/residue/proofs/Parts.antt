@@ -12,7 +12,6 @@ use Rattle.binar.proofs.Sums.{sum-comm}
 use Rattle.blocks.specs.Matrices.{times, units}
 use Rattle.blocks.specs.Words.{over}
 use Rattle.blocks.proofs.All.{All·at, All·left}
-use Rattle.blocks.proofs.Overs.{over-same}
 use Rattle.blocks.proofs.Products.{times-unit}
 use Rattle.blocks.proofs.Units.{units-length, units-lt, units-at}
 use Rattle.blocks.proofs.Values.{map-get}
@@ -49,12 +48,11 @@ module _ (n : ℕ) (F : List ℕ) (size : length F ≡ n + n) where
       → getD F j 0 ⊕ 2 ^ j ≡ getD (drop k (identityPlus n F) ++ take k (identityPlus n F)) i 0
   plus-from-at k i j h g = sym (g (identityPlus n F) plus-length ∙ plus-at j h)
 
-  -- from the lower half on, put over as many rows: the residue
-  pub residue-over : (k : ℕ) (x l : List ℕ) → x ≡ over (drop k (identityPlus n F) ++ take k (identityPlus n F)) l → k ≡ n → length l ≡ n + n → x ≡ residue n F
-  unfolding residue
-  residue-over k x l is e h =
-      let P = identityPlus n F in
-      is ∙ over-same (drop k P ++ take k P) l (plus-from-length k ∙ sym h) ∙ ap (λ (j : ℕ). drop j P ++ take j P) e
+-- from the lower half on: the residue
+pub residue-over : (n : ℕ) (F : List ℕ) (k : ℕ) (x l : List ℕ) → x ≡ over (drop k (identityPlus n F) ++ take k (identityPlus n F)) l → k ≡ n → x ≡ over (residue n F) l
+unfolding residue
+residue-over n F k x l is e =
+    let P = identityPlus n F in is ∙ ap (λ (j : ℕ). over (drop j P ++ take j P) l) e
 
 -- ---- a list with its first k members behind the others
 

@@ -3,15 +3,12 @@
 use actions::Action;
 use binar::Row;
 use binar::WIDTH;
-use blocks::Block;
-use symplectic::MAX_QUBITS;
 use symplectic::MOST_ROWS;
 ghost use mathlib.Core.Path.{_≡_};
 ghost use mathlib.Core.List.{List, _++_};
 ghost use Prim.Native.Nat.{ℕ, _+_, _≤_, _<_};
 ghost use lib.ListN.{getD, take, drop, length};
 ghost use Rattle.binar.specs.Rows.{val, width};
-ghost use Rattle.blocks.specs.Blocks.{rowsOf};
 ghost use Rattle.blocks.specs.Matrices.{dots as dotsOf};
 ghost use Rattle.blocks.specs.Words.{rowsIn, over};
 ghost use Rattle.symplectic.specs.Sizes.{mostRows};
@@ -50,15 +47,11 @@ pub fn put_identity_plus(a: Action, w: &mut [u64])
     put_plus(a, 0, w)
 }
 
-// I + F with the upper and lower n rows exchanged.
-pub fn residue(a: Action) -> Block
-    ensures { λ r. ⌜ rowsOf r ≡ residueOf (qubits a) (matrix a) ⌝ }
+// I + F with the upper and lower n rows exchanged, put over lent rows.
+pub fn residue(a: Action, w: &mut [u64])
+    ensures { λ _. ⌜ rowsIn (now (w .exit)) ≡ over (residueOf (qubits a) (matrix a)) (rowsIn (now (w .entry))) ⌝ }
 {
-    let mut w = [0u64; MOST_ROWS];
-    let n = symplectic::capped(a.n);
-    let to = blocks::start(&w, n + n);
-    put_plus(a, n, &mut w[..to]);
-    blocks::from_words(MAX_QUBITS, &w[..to])
+    put_plus(a, symplectic::capped(a.n), w)
 }
 
 // The row whose column i is the dot of v and row i of the first k: v times these transposed.
@@ -73,17 +66,6 @@ fn dots(v: Row, w: &[u64], k: usize) -> Row
         s = binar::added(s, binar::unit(i), binar::dot(v, blocks::row(w, i)));
     }
     s
-}
-
-// Puts the first k rows over lent ones.
-fn put_front(k: usize, rows: &[u64], out: &mut [u64])
-    requires { ⌜ k ≤ length (rowsIn (now rows)) ⌝ }
-    ensures { λ _. ⌜ rowsIn (now (out .exit)) ≡ over (take k (rowsIn (now (rows .entry)))) (rowsIn (now (out .entry))) ⌝ }
-{
-    let m = blocks::lesser(k, blocks::rows_in(out));
-    for i in 0..m {
-        blocks::put(out, i, blocks::row(rows, i));
-    }
 }
 
 // Puts the first k rows times the first k of the transform transposed over lent ones.
@@ -111,10 +93,11 @@ fn residue_core_in(
     ensures based { λ r. ⌜ rowsIn (now (basis .exit)) ≡ over (basisOf (qubits a) (matrix a)) (rowsIn (now (basis .entry))) ⌝ }
     ensures cored { λ r. ⌜ rowsIn (now (core .exit)) ≡ over (coreOf (qubits a) (matrix a)) (rowsIn (now (core .entry))) ⌝ }
 {
+    let mut pivots = [0; MOST_ROWS];
     let n = symplectic::capped(a.n);
-    put_plus(a, n, rows);
-    let r = reduction::row_reduce(n + n, rows, transform);
-    put_front(r, rows, basis);
+    residue(a, rows);
+    let r = reduction::row_reduce_with_transform(n + n, rows, transform, &mut pivots);
+    blocks::put_front(r, rows, basis);
     put_core(r, rows, transform, core);
     r
 }

@@ -1,9 +1,10 @@
 -- `by_column` leaves all as it is where no row has the column, by `both-none`; else it exchanges, sweeps and writes the pivot, by `column-next`.
 -- Assumes nothing.
-use mathlib.Core.Path.{sym, ap₂, _∙_}
+use mathlib.Core.Path.{refl, sym, ap₂, _∙_}
 use mathlib.Core.List.{zip}
-use Prim.Native.Nat.{_≤_, _<_}
+use Prim.Native.Nat.{_+_, _≤_, _<_}
 use lib.ListN.{length, take}
+use lib.Seq.{drop-set-lt}
 use Rattle.binar.specs.Bits.{bit}
 use Rattle.blocks.specs.Words.{rowsIn}
 use Rattle.blocks.proofs.Firsts.{First}
@@ -32,7 +33,7 @@ returns c =
     let R = rowsIn (s .a .now) in
     let f = c .before .before .before .first-with in
     let none : length R ≤ f .result = omega (arith, c .before .rows-in .ensures) in
-    (search needs, sym (both-none (s .c) (s .p) (take (s .p) (s .pivots .now)) R (rowsIn (s .t .now)) (start .pre .0) (λ i a l. f .ensures .2 i a (omega arith))))
+    (search needs, search needs, refl, sym (both-none (s .c) (s .p) (take (s .p) (s .pivots .now)) R (rowsIn (s .t .now)) (start .pre .0) (λ i a l. f .ensures .2 i a (omega arith))))
 
 exchange-requires : tie.Need-exchange-requires
 exchange-requires c κs = search needs
@@ -80,7 +81,9 @@ returns-2 c =
     let pivots = set-next (s .pivots .now) (s .p) (s .c) (omega (arith, start .pre .2)) in
     let x = c .before .before .before .before .before .before .before .before .before .before .before .before .before .exchange .ensures in
     let y = c .before .before .before .before .before .before .before .before .before .exchange2 .ensures in (
+      search needs,
       omega arith,
+      drop-set-lt (s .p + 1) (s .pivots .now) (s .p) _ (omega arith),
       column-next (s .c) (s .p) j (take (s .p) (s .pivots .now)) _ R T _ _ (start .pre .0) first pivots
           (c .before .before .before .before .sweep .ensures ∙ ap₂ (λ l m. swept (s .c) (s .p) (zip l m)) x y),
     )

@@ -4,13 +4,14 @@ use mathlib.Core.Path.{_≡_, refl, sym, ap, _∙_}
 use mathlib.Core.List.{zip}
 use Prim.Native.Nat.{ℕ, _-_, _≤_}
 use native.Mathlib.Nat.{sub-zero}
-use lib.ListN.{length, take}
+use lib.ListN.{length, take, drop}
 use Rattle.binar.specs.Bits.{bit}
 use Rattle.blocks.specs.Words.{rowsIn}
 use Rattle.symplectic.specs.Picks.{addBoth}
 use Rattle.reduction.specs.Columns.{Echelon, unreduced, columns}
 use Rattle.reduction.specs.inner.Sweeps.{halves}
 use Rattle.reduction.proofs.Flat.{columns-step, columns-done}
+use Rattle.reduction.proofs.Loops.{behind-kept}
 use Rattle.blocks.proofs.Lent.{lent-same}
 use native.Mathlib.Omega.{arith}
 use borrow.Author.Needs.{needs}
@@ -21,10 +22,10 @@ use Rattle.reduction.proofs.by_columns.Tie as tie
 abbrev steps : ℕ → ℕ → Echelon (ℕ × ℕ) → Echelon (ℕ × ℕ)
 steps k c h = columns (0, 0) addBoth (λ i a. bit i (a .0)) k c h
 
--- the columns before c are done, and the pivots before p written
+-- the columns before c are done, and the pivots before p written, no others
 abbrev Inv-loop : tie.InvT-loop
 Inv-loop m a₀ t₀ pivots₀ p₀ c₀ a t pivots p c =
-    (c ≤ m) × (length a ≡ length a₀) × (length t ≡ length t₀) × (length pivots ≡ length pivots₀) × (p ≤ length (rowsIn a₀))
+    (c ≤ m) × (length a ≡ length a₀) × (length t ≡ length t₀) × (length pivots ≡ length pivots₀) × (p ≤ length (rowsIn a₀)) × (drop p pivots ≡ drop p pivots₀)
     × (steps (m - c) c (halves p (take p pivots) (zip (rowsIn a) (rowsIn t))) ≡ steps m 0 (unreduced (zip (rowsIn a₀) (rowsIn t₀))))
 
 abbrev μ-loop : tie.MeasureT-loop
@@ -33,7 +34,7 @@ abbrev μ-loop : tie.MeasureT-loop
 loop-holds : tie.Need-loop-holds Inv-loop μ-loop
 loop-holds c =
     let s = c .before .before .before .args in
-    (search needs, refl, refl, refl, search needs, ap (λ (k : ℕ). steps k 0 (unreduced (zip (rowsIn (s .a .now)) (rowsIn (s .t .now))))) (sub-zero (s .m)))
+    (search needs, refl, refl, refl, search needs, refl, ap (λ (k : ℕ). steps k 0 (unreduced (zip (rowsIn (s .a .now)) (rowsIn (s .t .now))))) (sub-zero (s .m)))
 
 by-column-requires : tie.Need-by-column-requires Inv-loop μ-loop
 by-column-requires c κs =
@@ -53,14 +54,16 @@ loop-again : tie.Need-loop-again Inv-loop μ-loop
 loop-again c =
     let at = c .before .before .before .before .before .before .before .before .before .before .before .loop in
     let s = c .before .before .before .before .before .before .before .before .before .before .before .before .before .before .before .args in
-    let done = c .before .before .before .before .before .before .by-column .ensures in (
+    let o = c .before .before .before .before .before .before .by-column in
+    let done = o .ensures in (
       search needs,
       search needs,
       search needs,
       search needs,
-      omega (arith, done .0, lent-same (at .a) (s .a .now) (at .inv .1)),
+      omega (arith, done .1, lent-same (at .a) (s .a .now) (at .inv .1)),
+      behind-kept (at .p) (o .result) (s .pivots .now) (at .pivots) (o .last .1 .1 .1 .1 .0) (done .0) (at .inv .5) (done .2),
       columns-step (0, 0) addBoth (λ i a. bit i (a .0)) (s .m) (at .c) (halves (at .p) (take (at .p) (at .pivots)) (zip (rowsIn (at .a)) (rowsIn (at .t)))) _ _ (omega arith)
-          (at .inv .5) (done .1),
+          (at .inv .6) (done .3),
     )
 
 same-length : tie.Need-same-length Inv-loop μ-loop
@@ -76,7 +79,7 @@ returns : tie.Need-returns Inv-loop μ-loop
 returns c =
     let at = c .before .loop in
     let h = halves (at .p) (take (at .p) (at .pivots)) (zip (rowsIn (at .a)) (rowsIn (at .t))) in
-    (at .inv .4, sym (columns-done (0, 0) addBoth (λ i a. bit i (a .0)) (c .before .before .before .before .before .args .m) (at .c) h (omega arith)) ∙ at .inv .5)
+    (at .inv .4, at .inv .5, sym (columns-done (0, 0) addBoth (λ i a. bit i (a .0)) (c .before .before .before .before .before .args .m) (at .c) h (omega arith)) ∙ at .inv .6)
 
 pub by-columns-spec : {M : Type 1} → statement M
 by-columns-spec =

@@ -1,123 +1,119 @@
--- `row_reduce_with_transform` gives back what the reduction in local words leaves; the promises of the pivots hold of it, by `pivoted`.
+-- `row_reduce_with_transform` reduces the front of both, by `fitting-front`; what came back stands over the rest, by `put-back` and `pivots-over`, and the promises of
+-- the pivots hold of it, by `fitting-pivoted`.
 -- Assumes nothing.
-use mathlib.Core.Path.{_≡_, refl, sym, ap, _∙_}
-use Prim.Native.Nat.{_≤_}
+use mathlib.Core.Path.{_≡_, sym, ap, _∙_}
+use mathlib.Core.List.{List, map}
+use Prim.Native.Nat.{ℕ, _%_, min}
 use lib.ListN.{length, take}
-use Rattle.blocks.specs.Blocks.{room, rowsOf}
-use Rattle.blocks.proofs.Values.{rows-fit, unmapped}
-use Rattle.reduction.specs.Columns.{rank}
-use Rattle.reduction.specs.Pivots.{pivotsOf}
-use Rattle.reduction.proofs.Pivots.{pivoted}
-use Rattle.reduction.proofs.Words.{lent-room, lent-count, lent-rows, left-room, left-count, left-rows}
+use Rattle.binar.specs.Rows.{rowBound}
+use Rattle.blocks.specs.Words.{rowsIn, over}
+use Rattle.blocks.proofs.Lent.{lent-front}
+use Rattle.symplectic.proofs.Work.{part-words, part-rows}
+use Rattle.reduction.specs.Columns.{rows, rowReduceWithTransform, rank}
+use Rattle.reduction.proofs.InPlace.{fitting-front, pivots-over, fitting-pivoted}
+use Rattle.reduction.proofs.Words.{put-back}
 use native.Mathlib.Omega.{arith}
 use borrow.Author.Needs.{needs}
 use Rattle.reduction.proofs.row_reduce_with_transform.Statement.{statement}
 use Rattle.reduction.proofs.row_reduce_with_transform.Tie as tie
 
-long : (c : tie.Start) → length (c .args .matrix .rows) ≡ room
-long c = search (needs, unmapped)
+-- as many rows as all three have
+least : (c : tie.After-lesser2) → let s = c .before .before .before .before .before .before .before .before .before .args in c .lesser2 .result ≡ min (length (s .pivots .now)) (min (length (rowsIn (s .a .now))) (length (rowsIn (s .t .now))))
+least c = omega (arith, c .lesser2 .ensures, c .before .lesser .ensures, c .before .before .rows-in2 .ensures, c .before .before .before .before .rows-in .ensures)
 
--- a block has room for its rows
-fits : (c : tie.After-length-of) → c .length-of .result ≤ room
-fits c = omega (arith, c .length-of .ensures, rows-fit (c .before .before .args .matrix) (long (c .before .before)))
+rows-in-requires : tie.Need-rows-in-requires
+rows-in-requires c κs = search needs
 
-slice-aggregate-start : tie.Need-slice-aggregate-start
-slice-aggregate-start c = refl
+rows-in-requires-2 : tie.Need-rows-in-requires-2
+rows-in-requires-2 c κs = search needs
 
-length-of-requires : tie.Need-length-of-requires
-length-of-requires c κs = search needs
+lesser-requires : tie.Need-lesser-requires
+lesser-requires c κs = search needs
+
+lesser-requires-2 : tie.Need-lesser-requires-2
+lesser-requires-2 c κs = search needs
 
 start-requires : tie.Need-start-requires
 start-requires c κs = search needs
 
-array-borrow-prefix-rows : tie.Need-array-borrow-prefix-rows
-array-borrow-prefix-rows c = lent-room (c .before .length-of .result) room (c .start .result) (c .start .ensures)
+start-requires-2 : tie.Need-start-requires-2
+start-requires-2 c κs = search needs
 
-slice-aggregate-reduce-block : tie.Need-slice-aggregate-reduce-block
-slice-aggregate-reduce-block c = lent-count (c .before .before .length-of .result) room (c .before .start .result) (c .before .start .ensures)
+slice-relend-prefix-reduce : tie.Need-slice-relend-prefix-reduce
+slice-relend-prefix-reduce c = search needs
 
-array-borrow-prefix-transform : tie.Need-array-borrow-prefix-transform
-array-borrow-prefix-transform c = lent-room (c .before .before .length-of .result) room (c .before .start .result) (c .before .start .ensures)
-
-slice-aggregate-reduce-block-2 : tie.Need-slice-aggregate-reduce-block-2
-slice-aggregate-reduce-block-2 c = lent-count (c .before .before .before .length-of .result) room (c .before .before .start .result) (c .before .before .start .ensures)
-
-slice-aggregate-reduce-block-3 : tie.Need-slice-aggregate-reduce-block-3
-slice-aggregate-reduce-block-3 c = refl
-
-reduce-block-requires : tie.Need-reduce-block-requires
-reduce-block-requires c κs =
-    let k = c .before .before .before .before .length-of in
+slice-aggregate-reduce : tie.Need-slice-aggregate-reduce
+slice-aggregate-reduce c =
     let to = c .before .before .before .start in
-    let size = lent-rows (k .result) room (to .result) (to .ensures) (fits (c .before .before .before .before)) ∙ k .ensures in
-    (size, size, omega (arith, k .ensures, fits (c .before .before .before .before)))
+    part-words (c .before .before .before .before .before .lesser2 .result) (to .result) (c .before .before .before .before .before .before .before .before .before .before .before .before .before .before .args .a .now) (to .ensures)
 
-array-share-prefix-rows : tie.Need-array-share-prefix-rows
-array-share-prefix-rows c =
-    let k = c .before .before .before .before .before .before .before .before .length-of .result in
-    let to = c .before .before .before .before .before .before .before .start in
-    let o = c .before .before .before .reduce-block in
-    left-room k room (to .result) (to .ensures) (o .last .1 .1 .0) (o .kept .1 .1 .0)
+slice-relend-prefix-reduce-2 : tie.Need-slice-relend-prefix-reduce-2
+slice-relend-prefix-reduce-2 c = search needs
 
-slice-aggregate-from-words : tie.Need-slice-aggregate-from-words
-slice-aggregate-from-words c =
-    let k = c .before .before .before .before .before .before .before .before .before .length-of .result in
-    let to = c .before .before .before .before .before .before .before .before .start in
-    let o = c .before .before .before .before .reduce-block in
-    left-count k room (to .result) (to .ensures) (o .last .1 .1 .0) (o .kept .1 .1 .0)
+slice-aggregate-reduce-2 : tie.Need-slice-aggregate-reduce-2
+slice-aggregate-reduce-2 c =
+    let until = c .before .before .start2 in
+    part-words (c .before .before .before .before .before .before .lesser2 .result) (until .result) (c .before .before .before .before .before .before .before .before .before .before .before .before .before .before .before .args .t .now) (until .ensures)
 
-from-words-requires : tie.Need-from-words-requires
-from-words-requires c κs = search needs
+reduce-requires : tie.Need-reduce-requires
+reduce-requires c κs =
+    let s = c .before .before .before .before .before .before .before .before .before .before .before .before .before .before .before .before .args in
+    let k = c .before .before .before .before .before .before .before .lesser2 .result in
+    let e = least (c .before .before .before .before .before .before .before) in
+    let sizeA = part-rows k (c .before .before .before .before .before .start .result) (s .a .now) (c .before .before .before .before .before .start .ensures) (omega (arith, e)) in
+    let sizeT = part-rows k (c .before .before .before .start2 .result) (s .t .now) (c .before .before .before .start2 .ensures) (omega (arith, e)) in
+    (sizeA ∙ sym sizeT, omega (arith, sizeA, e))
 
-array-share-prefix-transform : tie.Need-array-share-prefix-transform
-array-share-prefix-transform c =
-    let k = c .before .before .before .before .before .before .before .before .before .before .length-of .result in
-    let to = c .before .before .before .before .before .before .before .before .before .start in
-    let o = c .before .before .before .before .before .reduce-block in
-    left-room k room (to .result) (to .ensures) (o .last .1 .1 .1 .0) (o .kept .1 .1 .1 .0)
+same-length : tie.Need-same-length
+same-length c = search needs
 
-slice-aggregate-from-words-2 : tie.Need-slice-aggregate-from-words-2
-slice-aggregate-from-words-2 c =
-    let k = c .before .before .before .before .before .before .before .before .before .before .before .length-of .result in
-    let to = c .before .before .before .before .before .before .before .before .before .before .start in
-    let o = c .before .before .before .before .before .before .reduce-block in
-    left-count k room (to .result) (to .ensures) (o .last .1 .1 .1 .0) (o .kept .1 .1 .1 .0)
+same-length-2 : tie.Need-same-length-2
+same-length-2 c = search needs
 
-from-words-requires-2 : tie.Need-from-words-requires-2
-from-words-requires-2 c κs = search needs
+same-length-3 : tie.Need-same-length-3
+same-length-3 c = search needs
 
 returns : tie.Need-returns
-unfolding rank pivotsOf
 returns c =
-    let s = c .before .before .before .before .before .before .before .before .before .before .before .before .before .before .args in
-    let k = c .before .before .before .before .before .before .before .before .before .before .before .before .length-of .result in
-    let to = c .before .before .before .before .before .before .before .before .before .before .before .start in
-    let o = c .before .before .before .before .before .before .before .reduce-block in
-    let done = o .ensures in
-    let ps = take (o .result) (o .last .1 .1 .1 .1 .0) in
-    let in-room = fits (c .before .before .before .before .before .before .before .before .before .before .before .before) in
-    let rows = c .before .before .from-words .ensures ∙ left-rows k room (to .result) (to .ensures) (o .last .1 .1 .0) (o .kept .1 .1 .0) in-room in-room ∙ done .1 in
-    let transform = c .from-words2 .ensures ∙ left-rows k room (to .result) (to .ensures) (o .last .1 .1 .1 .0) (o .kept .1 .1 .1 .0) in-room in-room ∙ done .2 in
-    let promises = pivoted (s .m) (rowsOf (s .matrix)) (o .result) ps (rowsOf (c .before .before .from-words .result)) (done .0) (done .3) rows in
-    (rows, (transform, ((done .0, ap length (done .3) ∙ sym (done .0)), (done .3, (promises .0, (promises .1, (promises .2, promises .3)))))))
+    let s = c .before .before .before .before .before .before .before .before .before .before .before .before .before .before .before .before .before .before .before .before .before .before .before .args in
+    let A = rowsIn (s .a .now) in
+    let T = rowsIn (s .t .now) in
+    let ps = s .pivots .now in
+    let k = c .before .before .before .before .before .before .before .before .before .before .before .before .before .before .lesser2 .result in
+    let e = least (c .before .before .before .before .before .before .before .before .before .before .before .before .before .before) in
+    let to = c .before .before .before .before .before .before .before .before .before .before .before .before .start in
+    let until = c .before .before .before .before .before .before .before .before .before .before .start2 in
+    let o = c .before .before .before .before .before .before .reduce in
+    let qs = o .last .1 .1 .1 .0 in
+    let is = lent-front k (to .result) (s .a .now) (to .ensures) ∙ fitting-front A T ps k e in
+    let all : List ℕ → List (ℕ × ℕ) = λ l. rows (rowReduceWithTransform (s .m) l) in
+    let ranked = o .ensures .0 .0 ∙ ap (rank (s .m)) is in
+    let reduced =
+    put-back k (to .result) (s .a .now) (to .ensures) (omega (arith, e)) (o .last .1 .0) (o .kept .1 .0)
+    ∙ ap (λ (l : List ℕ). over l A) (o .ensures .0 .1 ∙ ap (λ (l : List ℕ). map (λ x. x .0) (all l)) is) in
+    let transformed =
+    put-back k (until .result) (s .t .now) (until .ensures) (omega (arith, e)) (o .last .1 .1 .0) (o .kept .1 .1 .0)
+    ∙ ap (λ (l : List ℕ). over l T) (o .ensures .0 .2 ∙ ap (λ (l : List ℕ). map (λ x. x .1 % rowBound) (all l)) is) in
+    let found = o .ensures .0 .3 ∙ ap (λ (l : List ℕ). rowReduceWithTransform (s .m) l .pivots) is in
+    let promises = fitting-pivoted (s .m) A T ps (o .result) ranked (take (o .result) qs) _ found reduced in
+    (ranked, (reduced, (transformed, (pivots-over (s .m) A T ps (o .result) ranked qs found (o .ensures .1), (promises .0, (promises .1, (promises .2, promises .3)))))))
 
 pub row-reduce-with-transform-spec : {M : Type 1} → statement M
 row-reduce-with-transform-spec =
     tie.close
     (tie.spec
-    slice-aggregate-start
-    length-of-requires
+    rows-in-requires
+    rows-in-requires-2
+    lesser-requires
+    lesser-requires-2
     start-requires
-    array-borrow-prefix-rows
-    slice-aggregate-reduce-block
-    array-borrow-prefix-transform
-    slice-aggregate-reduce-block-2
-    slice-aggregate-reduce-block-3
-    reduce-block-requires
-    array-share-prefix-rows
-    slice-aggregate-from-words
-    from-words-requires
-    array-share-prefix-transform
-    slice-aggregate-from-words-2
-    from-words-requires-2
+    start-requires-2
+    slice-relend-prefix-reduce
+    slice-aggregate-reduce
+    slice-relend-prefix-reduce-2
+    slice-aggregate-reduce-2
+    reduce-requires
+    same-length
+    same-length-2
+    same-length-3
     returns)

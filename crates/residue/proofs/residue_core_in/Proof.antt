@@ -1,11 +1,13 @@
--- `residue_core_in` reduces the residue, by `residue-over` and `reduced-whole`, and puts the front of what is left, by `basis-end` and `core-end`.
+-- `residue_core_in` reduces the residue, all of it by `reduced-whole`, and puts the front of what is left, by `basis-end` and `core-end`.
 -- Assumes nothing.
-use mathlib.Core.Path.{_≡_, sym, ap, _∙_}
+use mathlib.Core.Path.{_≡_, refl, sym, ap, _∙_}
 use mathlib.Core.List.{List}
-use Prim.Native.Nat.{ℕ, _+_}
-use lib.ListN.{length}
+use Prim.Native.Nat.{ℕ, _+_, _≤_}
+use lib.ListN.{length, replicate, length-replicate}
 use Rattle.blocks.specs.Words.{rowsIn, over}
+use Rattle.blocks.proofs.Overs.{over-same}
 use Rattle.blocks.proofs.Values.{unmapped}
+use Rattle.symplectic.specs.Sizes.{mostRows}
 use Rattle.actions.specs.Actions.{qubits, matrix}
 use Rattle.actions.proofs.Arrays.{qubits-le, matrix-length, qubits-capped}
 use Rattle.reduction.specs.Columns.{rowReduceWithTransform}
@@ -13,7 +15,8 @@ use Rattle.reduction.specs.inner.Sweeps.{ReducedIn}
 use Rattle.reduction.proofs.InPlace.{reduced-whole}
 use Rattle.reduction.proofs.Parts.{rank-in-rows, rank-in-transform}
 use Rattle.residue.specs.Residue.{residue}
-use Rattle.residue.proofs.Parts.{residue-over, rank-wide, rank-end, basis-end, core-end}
+use Rattle.residue.proofs.Core.{residue-length}
+use Rattle.residue.proofs.Parts.{rank-wide, rank-end, basis-end, core-end}
 use Rattle.blocks.proofs.Lent.{lent-same}
 use native.Mathlib.Omega.{arith}
 use borrow.Author.Needs.{needs}
@@ -27,53 +30,56 @@ size : (c : tie.Start) → length (matrix (c .args .a)) ≡ qubits (c .args .a) 
 size c = matrix-length (c .args .a) (search (needs, unmapped))
 
 -- the rows are those of the residue
-is : (c : tie.After-put-plus) → let a = c .before .before .before .before .before .before .before .args .a in rowsIn (c .put-plus .last .1 .1 .0) ≡ residue (qubits a) (matrix a)
+is : (c : tie.After-residue) → let a = c .before .before .before .before .before .before .before .args .a in rowsIn (c .residue .last .1 .0) ≡ residue (qubits a) (matrix a)
 is c =
     let start = c .before .before .before .before .before .before .before in
-    let s = start .args in
-    residue-over (qubits (s .a)) (matrix (s .a)) (size start) _ _ (rowsIn (s .rows .now)) (c .put-plus .ensures) (qubits-is (c .before .before)) (start .pre .0)
+    let a = start .args .a in
+    c .residue .ensures ∙ over-same (residue (qubits a) (matrix a)) (rowsIn (start .args .rows .now)) (residue-length (qubits a) (matrix a) (size start) ∙ sym (start .pre .0))
 
 -- and they are reduced, all of them
-done : (c : tie.After-row-reduce)
-    → let n = c .before .before .before .before .before .before .before .capped .result in let M = rowsIn (c .before .before .before .before .before .put-plus .last .1 .1 .0) in
-    ReducedIn (n + n) M (c .row-reduce .result) (rowsIn (c .row-reduce .last .1 .0)) (rowsIn (c .row-reduce .last .1 .1 .0)) (rowReduceWithTransform (n + n) M .pivots)
+done : (c : tie.After-row-reduce-with-transform)
+    → let n = c .before .before .before .before .before .before .before .before .capped .result in let M = rowsIn (c .before .before .before .before .before .before .residue .last .1 .0) in let r = c .row-reduce-with-transform in
+    ReducedIn (n + n) M (r .result) (rowsIn (r .last .1 .0)) (rowsIn (r .last .1 .1 .0)) (rowReduceWithTransform (n + n) M .pivots)
 done c =
-    let start = c .before .before .before .before .before .before .before .before .before .before .before .before in
+    let start = c .before .before .before .before .before .before .before .before .before .before .before .before .before in
     let s = start .args in
-    let n = c .before .before .before .before .before .before .before .capped .result in
-    let put = c .before .before .before .before .before .put-plus in
-    let r = c .row-reduce in
-    let long = lent-same (put .last .1 .1 .0) (s .rows .now) (put .kept .1 .1 .0) ∙ start .pre .0 in
-    reduced-whole (n + n) _ (rowsIn (s .transform .now)) (omega (arith, long, start .pre .1)) (omega (arith, long, qubits-le (s .a))) (r .result) _ _ (long ∙ sym (start .pre .1)) (r .ensures .0) (r .ensures .1 .0) (r .ensures .1 .1)
+    let n = c .before .before .before .before .before .before .before .before .capped .result in
+    let put = c .before .before .before .before .before .before .residue in
+    let r = c .row-reduce-with-transform in
+    let pivots : List ℕ = replicate mostRows 0 in
+    let long = lent-same (put .last .1 .0) (s .rows .now) (put .kept .1 .0) ∙ start .pre .0 in
+    let few : length (rowsIn (put .last .1 .0)) ≤ length pivots = omega (arith, long, qubits-le (s .a), length-replicate {A = ℕ} mostRows 0) in
+    reduced-whole (n + n) _ (rowsIn (s .transform .now)) pivots (omega (arith, long, start .pre .1)) few (r .result) _ _ (long ∙ sym (start .pre .1)) (r .ensures .0) (r .ensures .1 .0) (r .ensures .1 .1 .0)
 
 capped-requires : tie.Need-capped-requires
 capped-requires c κs = search needs
 
-put-plus-requires : tie.Need-put-plus-requires
-put-plus-requires c κs = omega (arith, qubits-is (c .before))
+residue-requires : tie.Need-residue-requires
+residue-requires c κs = search needs
 
-add-row-reduce : tie.Need-add-row-reduce
-add-row-reduce c = omega (arith, qubits-is (c .before .before .before .before), qubits-le (c .before .before .before .before .before .before .before .before .before .args .a))
+add-row-reduce-with-transform : tie.Need-add-row-reduce-with-transform
+add-row-reduce-with-transform c = omega (arith, qubits-is (c .before .before .before .before), qubits-le (c .before .before .before .before .before .before .before .before .before .args .a))
 
-row-reduce-requires : tie.Need-row-reduce-requires
-row-reduce-requires c κs = search needs
+slice-aggregate-row-reduce-with-transform : tie.Need-slice-aggregate-row-reduce-with-transform
+slice-aggregate-row-reduce-with-transform c = refl
+
+row-reduce-with-transform-requires : tie.Need-row-reduce-with-transform-requires
+row-reduce-with-transform-requires c κs = search needs
 
 put-front-requires : tie.Need-put-front-requires
-put-front-requires c κs =
-    let n = c .before .before .before .before .before .before .before .before .before .before .before .before .before .capped .result in
-    let r = c .before .before .before .before .before .before in
-    rank-in-rows (n + n) (r .row-reduce .result) _ _ _ _ (done r)
+put-front-requires c κs = search needs
 
 put-core-requires : tie.Need-put-core-requires
 put-core-requires c κs =
-    let start = c .before .before .before .before .before .before .before .before .before .before .before .before .before .before .before .before .before .before .before .before .before .before .before .before in
+    let start = c .before .before .before .before .before .before .before .before .before .before .before .before .before .before .before .before .before .before .before .before .before .before .before .before .before .before in
     let a = start .args .a in
-    let n = c .before .before .before .before .before .before .before .before .before .before .before .before .before .before .before .before .before .before .before in
-    let put = c .before .before .before .before .before .before .before .before .before .before .before .before .before .before .before .before .before in
-    let r = c .before .before .before .before .before .before .before .before .before .before .before .before in (
-      rank-wide (n .capped .result) (qubits a) (r .row-reduce .result) (matrix a) _ _ _ _ (size start) (qubits-le a) (qubits-is n) (is put) (done r),
-      rank-in-rows (n .capped .result + n .capped .result) (r .row-reduce .result) _ _ _ _ (done r),
-      rank-in-transform (n .capped .result + n .capped .result) (r .row-reduce .result) _ _ _ _ (done r),
+    let n = c .before .before .before .before .before .before .before .before .before .before .before .before .before .before .before .before .before .before .before .before .before in
+    let put = c .before .before .before .before .before .before .before .before .before .before .before .before .before .before .before .before .before .before .before in
+    let r = c .before .before .before .before .before .before .before .before .before .before .before .before .before in
+    let p = r .row-reduce-with-transform .result in (
+      rank-wide (n .capped .result) (qubits a) p (matrix a) _ _ _ _ (size start) (qubits-le a) (qubits-is n) (is put) (done r),
+      rank-in-rows (n .capped .result + n .capped .result) p _ _ _ _ (done r),
+      rank-in-transform (n .capped .result + n .capped .result) p _ _ _ _ (done r),
     )
 
 same-length : tie.Need-same-length
@@ -90,15 +96,16 @@ same-length-4 c = search needs
 
 returns : tie.Need-returns
 returns c =
-    let start = c .before .before .before .before .before .before .before .before .before .before .before .before .before .before .before .before .before .before .before .before .before .before .before .before .before .before .before in
+    let start = c .before .before .before .before .before .before .before .before .before .before .before .before .before .before .before .before .before .before .before .before .before .before .before .before .before .before .before .before .before in
     let s = start .args in
     let a = s .a in
-    let n = c .before .before .before .before .before .before .before .before .before .before .before .before .before .before .before .before .before .before .before .before .before .before in
-    let put = c .before .before .before .before .before .before .before .before .before .before .before .before .before .before .before .before .before .before .before .before in
-    let r = c .before .before .before .before .before .before .before .before .before .before .before .before .before .before .before in
-    let rank = rank-end (n .capped .result) (qubits a) (r .row-reduce .result) (matrix a) _ _ _ _ (size start) (qubits-le a) (qubits-is n) (is put) (done r) in
-    let basis = basis-end (n .capped .result) (qubits a) (r .row-reduce .result) (matrix a) _ _ _ _ (size start) (qubits-le a) (qubits-is n) (is put) (done r) in
-    let core = core-end (n .capped .result) (qubits a) (r .row-reduce .result) (matrix a) _ _ _ _ (size start) (qubits-le a) (qubits-is n) (is put) (done r) in
+    let n = c .before .before .before .before .before .before .before .before .before .before .before .before .before .before .before .before .before .before .before .before .before .before .before .before in
+    let put = c .before .before .before .before .before .before .before .before .before .before .before .before .before .before .before .before .before .before .before .before .before .before in
+    let r = c .before .before .before .before .before .before .before .before .before .before .before .before .before .before .before .before in
+    let p = r .row-reduce-with-transform .result in
+    let rank = rank-end (n .capped .result) (qubits a) p (matrix a) _ _ _ _ (size start) (qubits-le a) (qubits-is n) (is put) (done r) in
+    let basis = basis-end (n .capped .result) (qubits a) p (matrix a) _ _ _ _ (size start) (qubits-le a) (qubits-is n) (is put) (done r) in
+    let core = core-end (n .capped .result) (qubits a) p (matrix a) _ _ _ _ (size start) (qubits-le a) (qubits-is n) (is put) (done r) in
     let based = c .before .before .before .before .before .before .before .before .put-front .ensures ∙ ap (λ (l : List ℕ). over l (rowsIn (s .basis .now))) basis in
     (rank, (based, c .before .before .put-core .ensures ∙ ap (λ (l : List ℕ). over l (rowsIn (s .core .now))) core))
 
@@ -107,9 +114,10 @@ residue-core-in-spec =
     tie.close
     (tie.spec
     capped-requires
-    put-plus-requires
-    add-row-reduce
-    row-reduce-requires
+    residue-requires
+    add-row-reduce-with-transform
+    slice-aggregate-row-reduce-with-transform
+    row-reduce-with-transform-requires
     put-front-requires
     put-core-requires
     same-length
