@@ -47,10 +47,10 @@ returns c =
     let begin = put .ensures ∙ ap (λ (k : ℕ). map (λ u. u % rowBound) (units k)) (sym even) in
     let long = lent-same a (s .a .now) (search needs) in
     let same = long ∙ even ∙ sym (lent-same t (s .t .now) (search needs)) in
-    let done =
-    reduced-in (s .m) M (o .result) (take (o .result) (o .last .1 .1 .1 .0)) (rowsIn a) (rowsIn t) same
-    (o .ensures .2 ∙ begun (s .m) M (rowsIn (put .last .0)) begin) (omega (arith, long, o .ensures .0)) in
-    (done, o .ensures .1)
+    let all = o .ensures .2 ∙ begun (s .m) M (rowsIn (put .last .0)) begin in (
+      reduced-in (s .m) M (o .result) (take (o .result) (o .last .1 .1 .1 .0)) (rowsIn a) (rowsIn t) same all (omega (arith, long, o .ensures .0)),
+      o .ensures .1,
+    )
 
 pub reduce-spec : {M : Type 1} → statement M
 reduce-spec =

@@ -88,12 +88,10 @@ returns c =
     let is = lent-front k (to .result) (s .a .now) (to .ensures) ∙ fitting-front A T ps k e in
     let all : List ℕ → List (ℕ × ℕ) = λ l. rows (rowReduceWithTransform (s .m) l) in
     let ranked = o .ensures .0 .0 ∙ ap (rank (s .m)) is in
-    let reduced =
-    put-back k (to .result) (s .a .now) (to .ensures) (omega (arith, e)) (o .last .1 .0) (o .kept .1 .0)
-    ∙ ap (λ (l : List ℕ). over l A) (o .ensures .0 .1 ∙ ap (λ (l : List ℕ). map (λ x. x .0) (all l)) is) in
-    let transformed =
-    put-back k (until .result) (s .t .now) (until .ensures) (omega (arith, e)) (o .last .1 .1 .0) (o .kept .1 .1 .0)
-    ∙ ap (λ (l : List ℕ). over l T) (o .ensures .0 .2 ∙ ap (λ (l : List ℕ). map (λ x. x .1 % rowBound) (all l)) is) in
+    let backA = put-back k (to .result) (s .a .now) (to .ensures) (omega (arith, e)) (o .last .1 .0) (o .kept .1 .0) in
+    let backT = put-back k (until .result) (s .t .now) (until .ensures) (omega (arith, e)) (o .last .1 .1 .0) (o .kept .1 .1 .0) in
+    let reduced = backA ∙ ap (λ (l : List ℕ). over l A) (o .ensures .0 .1 ∙ ap (λ (l : List ℕ). map (λ x. x .0) (all l)) is) in
+    let transformed = backT ∙ ap (λ (l : List ℕ). over l T) (o .ensures .0 .2 ∙ ap (λ (l : List ℕ). map (λ x. x .1 % rowBound) (all l)) is) in
     let found = o .ensures .0 .3 ∙ ap (λ (l : List ℕ). rowReduceWithTransform (s .m) l .pivots) is in
     let promises = fitting-pivoted (s .m) A T ps (o .result) ranked (take (o .result) qs) _ found reduced in
     (ranked, (reduced, (transformed, (pivots-over (s .m) A T ps (o .result) ranked qs found (o .ensures .1), (promises .0, (promises .1, (promises .2, promises .3)))))))
