@@ -1,22 +1,44 @@
--- The rows of an action: how many there are, and an array whose rows are written one by one from the start.
+-- The values of rows in an array; the rows of an action, how many there are, and an array whose rows are written one by one from the start.
 -- Assumes nothing.
 use mathlib.Core.Path.{_≡_, refl, sym, ap, ap₂, _∙_}
 use mathlib.Core.List.{List, [], _∷_, _++_}
 use Prim.Native.Nat.{ℕ, zero, suc, _+_, _≤_, _<_, min}
 use native.Mathlib.Nat.{le-of-suc-le-suc, not-suc-le-zero}
 use native.Mathlib.Omega.{arith}
-use lib.ListN.{length, getD, set, take, drop, replicate}
+use lib.ListN.{length, getD, set, take, drop, replicate, length-map}
 use lib.Seq.{take-at, getD-take, length-take-le}
 use Rattle.binar.specs.declared.Row.{Row}
 use Rattle.binar.specs.Rows.{val}
 use Rattle.binar.specs.inner.Blank.{blank}
-use Rattle.blocks.specs.Blocks.{vals}
+use Rattle.binar.proofs.Widths.{val-blank}
 use Rattle.blocks.proofs.Overs.{over-more}
-use Rattle.blocks.proofs.Values.{vals-get, vals-set, vals-length}
 use Rattle.actions.specs.declared.Action.{Action}
 use Rattle.symplectic.specs.Sizes.{maxQubits, mostRows, capped}
-use Rattle.actions.specs.Actions.{qubits, matrix, padded}
+use Rattle.actions.specs.Actions.{vals, qubits, matrix, padded}
 use Rattle.symplectic.proofs.Sizes.{capped-le, capped-is}
+
+-- ---- values
+
+vals-get : (l : List Row) (i : ℕ) → val (getD l i blank) ≡ getD (vals l) i 0
+unfolding vals
+vals-get [] i = val-blank
+vals-get (x ∷ l) zero = refl
+vals-get (x ∷ l) (suc i) = vals-get l i
+
+vals-set : (l : List Row) (i : ℕ) (v : Row) → vals (set l i v) ≡ set (vals l) i (val v)
+unfolding vals
+vals-set [] i v = refl
+vals-set (x ∷ l) zero v = refl
+vals-set (x ∷ l) (suc i) v = ap (λ (m : List ℕ). val x ∷ m) (vals-set l i v)
+
+vals-length : (l : List Row) → length (vals l) ≡ length l
+unfolding vals
+vals-length l = length-map l val
+
+pub vals-replicate : (m : ℕ) (z : Row) → val z ≡ 0 → vals (replicate m z) ≡ replicate m 0
+unfolding vals
+vals-replicate zero z e = refl
+vals-replicate (suc m) z e = ap₂ _∷_ e (vals-replicate m z e)
 
 -- ---- the qubits and the rows of an action
 

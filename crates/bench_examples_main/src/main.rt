@@ -96,7 +96,7 @@ fn reduced(name: &[u8], rows: &[u64]) {
     print_first(rank, &pivots);
     io::write_all(STDOUT_FILENO, b", rows");
     let mut out = [0u64; 4];
-    blocks::lay(2, &w, &mut out);
+    matrices::lay(2, &w, &mut out);
     print_rows(&out);
     io::write_all(STDOUT_FILENO, b"\n");
 }

@@ -9,7 +9,7 @@ use native.Mathlib.Omega.{arith}
 use lib.Dec.{eqb, ltb}
 use lib.Pow.{pow-pos, pow-mono}
 use borrow.Author.Tests.{ltb-true, ltb-false, eqb-false}
-use lib.ListN.{length, getD, length-map}
+use lib.ListN.{length, getD, length-map, List·getD-map}
 use Rattle.binar.specs.Bits.{_⊻_, select, digit, odd, bit, _⊕_, dot}
 use Rattle.binar.specs.Rows.{width, rowBound, lowest}
 use Rattle.binar.proofs.Digits.{digit-lt, same-digits, odd-digit, half-digit, odd-zero, odd-one, odd-double, odd-sum, half-sum, bit-suc}
@@ -138,6 +138,9 @@ times-matmul (a ∷ A) B c =
 pub matmul-is : (A B : List ℕ) → matmul A B ≡ map (λ a. times a B) A
 unfolding matmul
 matmul-is A B = refl
+
+pub row-times : (A B : List ℕ) (i : ℕ) → getD (matmul A B) i 0 ≡ times (getD A i 0) B
+row-times A B i = ap₂ (λ M d. getD M i d) (matmul-is A B) (sym (times-zero B)) ∙ List·getD-map (λ a. times a B) A i 0
 
 pub matmul-length : (A B : List ℕ) → length (matmul A B) ≡ length A
 unfolding matmul

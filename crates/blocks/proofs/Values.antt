@@ -1,4 +1,4 @@
--- The values of rows in a list; the rows of a block read and written, a member taken out; rows laid into lent words.
+-- The first members of a list, a member written or taken out; rows laid into lent words, and lent words as rows.
 -- Assumes nothing.
 use mathlib.Core.Path.{_≡_, refl, sym, ap, ap₂, _∙_}
 use mathlib.Core.List.{List, [], _∷_, _++_, map, append-nil}
@@ -6,67 +6,20 @@ use Prim.Native.Nat.{ℕ, zero, suc, _+_, _^_, _≤_, _<_, min}
 use native.Mathlib.Nat.{le-of-suc-le-suc, not-suc-le-zero, mod-eq-of-lt, lt-of-lt-of-le}
 use native.Mathlib.Numerals.{add-one}
 use native.Mathlib.Omega.{arith}
-use lib.ListN.{getD, set, length, take, drop, replicate, length-map, length-append, length-take, length-drop, drop-of-length-le}
-use lib.Seq.{take-all, take-at, take-suc, take-suc-set, getD-take}
+use lib.ListN.{getD, set, length, take, drop, length-map, length-append, length-drop, drop-of-length-le}
+use lib.Seq.{take-all, take-at, take-suc-set}
 use lib.Pow.{pow-mono}
-use Rattle.binar.specs.declared.Row.{Row}
-use Rattle.binar.specs.Rows.{width, val}
-use Rattle.binar.specs.inner.Blank.{blank}
-use Rattle.binar.proofs.Widths.{val-blank}
-use Rattle.blocks.specs.declared.Block.{Block}
-use Rattle.blocks.specs.Blocks.{room, vals, rowsOf}
+use Rattle.binar.specs.Rows.{width}
 use Rattle.blocks.specs.Matrices.{All}
 use Rattle.blocks.specs.inner.Lists.{without}
 use Rattle.blocks.proofs.Overs.{over-more, over-end}
 use Rattle.blocks.specs.Words.{over, rowsOfWords, wordOf, wordsOfRows, laid}
 
--- ---- values
-
-pub vals-get : (l : List Row) (i : ℕ) → val (getD l i blank) ≡ getD (vals l) i 0
-unfolding vals
-vals-get [] i = val-blank
-vals-get (x ∷ l) zero = refl
-vals-get (x ∷ l) (suc i) = vals-get l i
-
-pub vals-set : (l : List Row) (i : ℕ) (v : Row) → vals (set l i v) ≡ set (vals l) i (val v)
-unfolding vals
-vals-set [] i v = refl
-vals-set (x ∷ l) zero v = refl
-vals-set (x ∷ l) (suc i) v = ap (λ (m : List ℕ). val x ∷ m) (vals-set l i v)
-
-pub vals-length : (l : List Row) → length (vals l) ≡ length l
-unfolding vals
-vals-length l = length-map l val
-
-pub vals-replicate : (m : ℕ) (z : Row) → val z ≡ 0 → vals (replicate m z) ≡ replicate m 0
-unfolding vals
-vals-replicate zero z e = refl
-vals-replicate (suc m) z e = ap₂ _∷_ e (vals-replicate m z e)
-
 -- the length of an array of structs, from that of the list mapped to what stands for its elements
 pub unmapped : {X Y : Type 0} (f : X → Y) (l : List X) (n : ℕ) → length (map f l) ≡ n → length l ≡ n
 unmapped f l n p = sym (length-map l f) ∙ p
 
--- ---- the rows of a block
-
-pub rows-are : (b : Block) → rowsOf b ≡ take (b .count) (vals (b .rows))
-unfolding rowsOf
-rows-are b = refl
-
-pub rows-length : (b : Block) → length (b .rows) ≡ room → length (rowsOf b) ≡ min (b .count) room
-unfolding rowsOf
-rows-length b h = length-take (b .count) (vals (b .rows)) ∙ ap (min (b .count)) (vals-length (b .rows) ∙ h)
-
-pub rows-fit : (b : Block) → length (b .rows) ≡ room → length (rowsOf b) ≤ room
-rows-fit b h = omega (arith, rows-length b h)
-
-pub rows-get : (b : Block) (i : ℕ) → i < length (rowsOf b) → val (getD (b .rows) i blank) ≡ getD (rowsOf b) i 0
-unfolding rowsOf
-rows-get b i h =
-    vals-get (b .rows) i ∙ sym (getD-take (b .count) (vals (b .rows)) i 0 (below (b .count) (vals (b .rows)) h))
-  where
-    below : (n : ℕ) (l : List ℕ) → i < length (take n l) → i < n
-    below n l k = omega (arith, k, length-take n l)
+-- ---- the first members of a list
 
 -- a count by the length of what it counts
 pub take-counted : (n : ℕ) (l : List ℕ) → take (length (take n l)) l ≡ take n l
@@ -77,17 +30,6 @@ take-counted (suc n) (x ∷ l) = ap (λ (m : List ℕ). x ∷ m) (take-counted n
 -- a member written behind the first i
 pub set-next : (l : List ℕ) (i v : ℕ) → i < length l → take (i + 1) (set l i v) ≡ take i l ++ (v ∷ [])
 set-next l i v h = ap (λ (j : ℕ). take j (set l i v)) (add-one i) ∙ take-suc-set l i v h
-
--- a block written from its start: row i of m behind the first i, then as many as m has
-pub taken-next : (l : List Row) (i : ℕ) (v : Row) → i < length l → take (i + 1) (vals (set l i v)) ≡ take i (vals l) ++ (val v ∷ [])
-taken-next l i v h = ap (take (i + 1)) (vals-set l i v) ∙ set-next (vals l) i (val v) (omega (arith, vals-length l))
-
-pub write-next : (m : List ℕ) (l : List Row) (i : ℕ) (v : Row) → i < length m → i < length l → take i (vals l) ≡ take i m → val v ≡ getD m i 0 → take (i + 1) (vals (set l i v)) ≡ take (i + 1) m
-write-next m l i v h g e f =
-    taken-next l i v g ∙ ap₂ (λ (k : List ℕ) (x : ℕ). k ++ (x ∷ [])) e f ∙ sym (ap (λ (k : ℕ). take k m) (add-one i) ∙ take-suc m i 0 h)
-
-pub write-end : (m : List ℕ) (l : List Row) (i k : ℕ) → i ≡ k → k ≡ length m → take i (vals l) ≡ take i m → take k (vals l) ≡ m
-write-end m l i k e h inv = ap (λ (j : ℕ). take j (vals l)) (sym e) ∙ inv ∙ take-all i m (omega arith)
 
 -- a member of a map's results
 pub map-get : {A B : Type 0} (f : A → B) (l : List A) (i : ℕ) (d : A) (e : B) → i < length l → getD (map f l) i e ≡ f (getD l i d)

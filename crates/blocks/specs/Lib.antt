@@ -1,4 +1,3 @@
 pub mod Matrices
 pub mod Words
-pub mod Blocks
 pub mod inner

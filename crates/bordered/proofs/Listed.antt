@@ -1,6 +1,6 @@
 -- The bordered list of an action from the family of its core: none where there is no family, else what the two checks pass.
 -- Assumes nothing.
-use mathlib.Core.Path.{_≡_, sym, ap, ap₂, _∙_}
+use mathlib.Core.Path.{_≡_, refl, sym, ap, ap₂, _∙_, subst}
 use mathlib.Core.Bool.{Bool, _&&_}
 use mathlib.Core.List.{List, map}
 use mathlib.Core.Option.{Option, none, some}
@@ -9,9 +9,9 @@ use native.Mathlib.Omega.{arith}
 use lib.ListN.{length}
 use lib.Seq.{take-all}
 use Rattle.binar.specs.Rows.{width}
-use Rattle.blocks.specs.Blocks.{rowsOf}
-use Rattle.blocks.specs.Words.{rowsIn}
+use Rattle.blocks.specs.Words.{rowsIn, over}
 use Rattle.blocks.specs.Matrices.{times, matmul}
+use Rattle.blocks.proofs.Overs.{over-nil}
 use Rattle.blocks.proofs.Products.{matmul-is}
 use Rattle.symplectic.specs.Sizes.{maxQubits}
 use Rattle.symplectic.specs.Picks.{when}
@@ -20,44 +20,54 @@ use Rattle.residue.specs.Residue.{basis, core, residue, form}
 use Rattle.residue.proofs.Core.{core-length, basis-rank, residue-length}
 use Rattle.triangular.specs.Readings.{coreIn}
 use Rattle.triangular.proofs.Cores.{core-in}
-use Rattle.family.specs.declared.Family.{Family}
-use Rattle.family.specs.declared.Construction.the-variants.{Made, Stuck}
-use Rattle.family.specs.Readings.{listOf, familyOf}
-use Rattle.family.proofs.Marked.{list-vectors, family-of-made, family-of-stuck}
-use Rattle.bordered.specs.declared.Bordered.{Bordered}
+use Rattle.family.specs.Family.{coreFamily, vectors}
+use Rattle.family.specs.Readings.{marked}
+use Rattle.family.proofs.Marked.{marked-vectors}
+use Rattle.bordered.specs.declared.Candidate.{Candidate}
 use Rattle.bordered.specs.declared.Candidate.the-variants.{Passed, Rejected}
-use Rattle.bordered.specs.Checks.{validate, verifiesBordered, checkedList, coreFamily, borderedList}
-use Rattle.bordered.specs.Readings.{ifPassed, listedOf}
+use Rattle.bordered.specs.Checks.{validate, verifiesBordered, checkedList, borderedList}
+use Rattle.bordered.specs.Readings.{ifPassed, listOf}
 
--- ---- what a list of the code means
+-- ---- what a candidate of the code means
 
-module _ (b : Bordered) where
-  pub listed-passed : b .candidate ≡ Passed → listedOf b ≡ some (rowsOf (b .list))
-  unfolding listedOf
-  listed-passed e = ap (λ c. ifPassed c (rowsOf (b .list))) e
+module _ (c : Candidate) (v : Option (List ℕ)) where
+  pub listed-passed : c ≡ Passed → ifPassed c (listOf v) ≡ v → v ≡ some (listOf v)
+  unfolding ifPassed
+  listed-passed e is = sym is ∙ ap (λ (d : Candidate). ifPassed d (listOf v)) e
 
-  pub listed-rejected : b .candidate ≡ Rejected → listedOf b ≡ none
-  unfolding listedOf
-  listed-rejected e = ap (λ c. ifPassed c (rowsOf (b .list))) e
+  pub listed-rejected : c ≡ Rejected → ifPassed c (listOf v) ≡ v → v ≡ none
+  unfolding ifPassed
+  listed-rejected e is = sym is ∙ ap (λ (d : Candidate). ifPassed d (listOf v)) e
+
+-- what was put over the rows `out` is the list of v, where there is one
+abbrev pub Put : Candidate → List ℕ → List ℕ → Option (List ℕ) → Type 0
+Put c out rows v = (ifPassed c (listOf v) ≡ v) × (rows ≡ over (listOf v) out)
+
+pub put-passed : (out rows vs : List ℕ) (v : Option (List ℕ)) → some vs ≡ v → rows ≡ over vs out → Put Passed out rows v
+unfolding ifPassed listOf
+put-passed out rows vs v e is = subst (Put Passed out rows) e (refl, is)
+
+pub put-rejected : (out : List ℕ) (v : Option (List ℕ)) → none ≡ v → Put Rejected out out v
+unfolding ifPassed listOf
+put-rejected out v e = subst (Put Rejected out out) e (refl, sym (over-nil out))
 
 -- ---- the list that the two checks pass of a family
 
-module _ (n : ℕ) (F B E : List ℕ) (f : Family) (family : Option (List (ℕ × Bool))) (is : familyOf f ≡ family) where
-  pub unlisted : f .construction ≡ Stuck → none ≡ checkedList n F B E family
-  unfolding checkedList
-  unlisted e = ap (checkedList n F B E) (sym (family-of-stuck f e) ∙ is)
+-- the list ws of p peeled vectors and others, with what the two checks say
+pub listed-by : (n : ℕ) (F B E : List ℕ) (p : ℕ) (vs : List ℕ) (r : ℕ) → r ≡ length B → (ws : List ℕ) → ws ≡ matmul vs B
+    → (s t : Bool) → s ≡ validate r (form E) (marked p vs) → t ≡ verifiesBordered n F r ws
+    → when (s && t) ws ≡ checkedList n F B E (some (marked p vs))
+unfolding checkedList
+listed-by n F B E p vs r rank ws product s t valid verified =
+    let l = marked p vs in
+    let all : ws ≡ map (λ q. times q B) (vectors l) = product ∙ matmul-is vs B ∙ ap (map (λ q. times q B)) (sym (marked-vectors p vs)) in
+    ap₂ (λ x y. when (x && y) ws) (valid ∙ ap (λ m. validate m (form E) l) rank) (verified ∙ ap (λ m. verifiesBordered n F m ws) rank)
+    ∙ ap (λ w. when (validate (length B) (form E) l && verifiesBordered n F (length B) w) w) all
 
-  -- the list vs, with what the two checks say
-  pub listed-by : f .construction ≡ Made → (r : ℕ) → r ≡ length B → (vs : List ℕ) → vs ≡ matmul (rowsOf (f .vectors)) B
-      → (s t : Bool) → s ≡ validate r (form E) (listOf f) → t ≡ verifiesBordered n F r vs
-      → when (s && t) vs ≡ checkedList n F B E family
-  unfolding checkedList
-  listed-by e r rank vs product s t valid verified =
-      let all : vs ≡ map (λ p. times p B) (map (λ a. a .0) (listOf f)) =
-      product ∙ matmul-is (rowsOf (f .vectors)) B ∙ ap (map (λ p. times p B)) (sym (list-vectors f)) in
-      ap₂ (λ x y. when (x && y) vs) (valid ∙ ap (λ m. validate m (form E) (listOf f)) rank) (verified ∙ ap (λ m. verifiesBordered n F m vs) rank)
-      ∙ ap (λ w. when (validate (length B) (form E) (listOf f) && verifiesBordered n F (length B) w) w) all
-      ∙ ap (checkedList n F B E) (sym (family-of-made f e) ∙ is)
+-- where a construction is stuck there is none
+pub unlisted : (n : ℕ) (F B E : List ℕ) (family : Option (List (ℕ × Bool))) → family ≡ none → none ≡ checkedList n F B E family
+unfolding checkedList
+unlisted n F B E family e = ap (checkedList n F B E) (sym e)
 
 -- ---- the list of an action
 

@@ -11,14 +11,12 @@ use lib.ListN.{length, getD, drop, drop-of-length-le}
 use Rattle.binar.specs.Bits.{odd, _⊻_, _⊕_, dot}
 use Rattle.binar.proofs.Digits.{odd-zero, odd-suc}
 use Rattle.binar.proofs.Sums.{sum-zero, sum-assoc, sum-comm}
-use Rattle.blocks.specs.Blocks.{rowsOf}
 use Rattle.blocks.specs.Matrices.{times}
 use Rattle.symplectic.proofs.FirstPicks.{drop-open}
 use Rattle.residue.specs.Residue.{form}
 use Rattle.triangular.proofs.Cores.{form-dot}
-use Rattle.family.specs.declared.Family.{Family}
-use Rattle.family.specs.Readings.{marked, listOf}
-use Rattle.family.proofs.Marked.{marked-nil, marked-peeled, marked-related, marked-at, list-marked}
+use Rattle.family.specs.Readings.{marked}
+use Rattle.family.proofs.Marked.{marked-nil, marked-peeled, marked-related, marked-at}
 use Rattle.bordered.specs.Checks.{oddRelation, relationSum, borderedForm}
 
 -- ---- the entry of two vectors, the first of them times the core, and their bits
@@ -42,10 +40,9 @@ marked-odd zero (v ∷ vs) =
     ap oddRelation (marked-related v vs) ∙ ap not (marked-odd zero vs) ∙ sym (odd-suc (length vs - 0)) ∙ ap odd e
 marked-odd (suc k) (v ∷ vs) = ap oddRelation (marked-peeled k v vs) ∙ marked-odd k vs ∙ ap odd (sym (suc-sub-suc (length vs) k))
 
--- those of a family of k vectors
-pub family-odd : (f : Family) (k : ℕ) → k ≡ length (rowsOf (f .vectors)) → odd (k - f .peeled) ≡ oddRelation (listOf f)
-family-odd f k e =
-    ap (λ (m : ℕ). odd (m - f .peeled)) e ∙ sym (ap oddRelation (list-marked f) ∙ marked-odd (f .peeled) (rowsOf (f .vectors)))
+-- those of k vectors
+pub related-odd : (p : ℕ) (vs : List ℕ) (k : ℕ) → k ≡ length vs → odd (k - p) ≡ oddRelation (marked p vs)
+related-odd p vs k e = ap (λ (m : ℕ). odd (m - p)) e ∙ sym (marked-odd p vs)
 
 -- ---- their sum, one by one
 

@@ -6,14 +6,12 @@ use mathlib.Core.List.{List, [], _∷_}
 use Prim.Native.Nat.{ℕ, suc, _+_}
 use lib.Dec.{eqb}
 use lib.ListN.{length}
-use Rattle.blocks.specs.Blocks.{rowsOf}
 use Rattle.symplectic.specs.Turns.{allOf, product}
 use Rattle.symplectic.specs.Matches.{fitAll, sameRows}
 use Rattle.symplectic.proofs.Matches.{matches-is}
 use Rattle.reduction.specs.Columns.{rank}
-use Rattle.family.specs.declared.Family.{Family}
-use Rattle.family.specs.Readings.{listOf}
-use Rattle.family.proofs.Marked.{list-vectors, list-length}
+use Rattle.family.specs.Readings.{marked}
+use Rattle.family.proofs.Marked.{marked-vectors, marked-length}
 use Rattle.bordered.specs.Checks.{oddRelation, relationSum, unitLower, validate, verifiesBordered}
 
 -- ---- any tests
@@ -36,14 +34,14 @@ chain-stops l a t h e = chain-left l (a && t) false h (ap (λ b. b && t) (sym e)
 
 -- ---- the tests of a family, and of a list
 
-pub family-tests : (r : ℕ) (E : ℕ → ℕ → Bool) (f : Family)
-    → chain (fitAll r (rowsOf (f .vectors)) ∷ eqb (length (rowsOf (f .vectors))) (suc r) ∷ oddRelation (listOf f) ∷ unitLower E (listOf f) ∷ eqb (relationSum (listOf f)) 0 ∷ [])
-    (eqb (rank r (rowsOf (f .vectors))) r)
-    ≡ validate r E (listOf f)
+pub family-tests : (r : ℕ) (E : ℕ → ℕ → Bool) (p : ℕ) (vs : List ℕ)
+    → chain (fitAll r vs ∷ eqb (length vs) (suc r) ∷ oddRelation (marked p vs) ∷ unitLower E (marked p vs) ∷ eqb (relationSum (marked p vs)) 0 ∷ []) (eqb (rank r vs) r)
+    ≡ validate r E (marked p vs)
 unfolding validate
-family-tests r E f =
-    sym (ap₂ (λ ws k. chain (fitAll r ws ∷ eqb k (suc r) ∷ oddRelation (listOf f) ∷ unitLower E (listOf f) ∷ eqb (relationSum (listOf f)) 0 ∷ []) (eqb (rank r ws) r))
-    (list-vectors f) (list-length f))
+family-tests r E p vs =
+    let l = marked p vs in
+    sym (ap₂ (λ ws k. chain (fitAll r ws ∷ eqb k (suc r) ∷ oddRelation l ∷ unitLower E l ∷ eqb (relationSum l) 0 ∷ []) (eqb (rank r ws) r))
+    (marked-vectors p vs) (marked-length p vs))
 
 pub list-tests : (n : ℕ) (F : List ℕ) (r : ℕ) (vs : List ℕ)
     → chain (eqb (length vs) (suc r) ∷ allOf (λ v. not (eqb v 0)) vs ∷ fitAll (n + n) vs ∷ []) (sameRows (product n vs) F) ≡ verifiesBordered n F r vs

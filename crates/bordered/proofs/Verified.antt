@@ -19,7 +19,8 @@ use Rattle.symplectic.proofs.Matches.{matches-known}
 use Rattle.symplectic.specs.Picks.{when}
 use Rattle.residue.specs.Residue.{basis, core, form}
 use Rattle.residue.proofs.Core.{basis-within}
-use Rattle.bordered.specs.Checks.{vectors, validate, verifiesBordered, checkedList, coreFamily, borderedList}
+use Rattle.family.specs.Family.{coreFamily, vectors}
+use Rattle.bordered.specs.Checks.{validate, verifiesBordered, checkedList, borderedList}
 
 -- what `verifies_bordered_decomposition` has seen of a list
 pub record Verified (n : ℕ) (F vs : List ℕ) : Type 0 where

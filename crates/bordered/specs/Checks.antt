@@ -7,17 +7,13 @@ use Prim.Native.Nat.{ℕ, suc}
 use lib.Dec.{eqb}
 use lib.ListN.{length}
 use Rattle.binar.specs.Bits.{_⊻_, select, _⊕_}
-use Rattle.blocks.specs.Matrices.{times, units}
+use Rattle.blocks.specs.Matrices.{times}
 use Rattle.symplectic.specs.Turns.{allOf}
 use Rattle.symplectic.specs.Matches.{fitAll, matches}
 use Rattle.symplectic.specs.Picks.{when}
 use Rattle.reduction.specs.Columns.{rank}
 use Rattle.residue.specs.Residue.{basis, core, form}
-use Rattle.family.specs.Family.{borderedFamily}
-
--- the vectors of a family
-abbrev pub vectors : List (ℕ × Bool) → List ℕ
-vectors l = map (λ a. a .0) l
+use Rattle.family.specs.Family.{coreFamily, vectors}
 
 -- the relation has an odd number of ones
 abbrev pub oddRelation : List (ℕ × Bool) → Bool
@@ -56,10 +52,6 @@ checkedList n F B E (some l) =
     let r = length B in
     let vs = map (λ p. times p B) (vectors l) in
     when (validate r (form E) l && verifiesBordered n F r vs) vs
-
--- the family of a core, begun from unit vectors
-abbrev pub coreFamily : List ℕ → Option (List (ℕ × Bool))
-coreFamily E = borderedFamily (form E) (length E) (units (length E))
 
 -- the bordered list; none where the candidate does not pass
 unfoldable pub borderedList : ℕ → List ℕ → Option (List ℕ)

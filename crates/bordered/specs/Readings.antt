@@ -1,17 +1,17 @@
--- What a bordered list of the code means.
+-- What a candidate of the code means, and the list of one that passed.
 -- Assumes nothing.
-use mathlib.Core.List.{List}
+use mathlib.Core.List.{List, []}
 use mathlib.Core.Option.{Option, none, some}
 use Prim.Native.Nat.{ℕ}
-use Rattle.blocks.specs.Blocks.{rowsOf}
 use Rattle.bordered.specs.declared.Candidate.{Candidate}
 use Rattle.bordered.specs.declared.Candidate.the-variants.{Passed, Rejected}
-use Rattle.bordered.specs.declared.Bordered.{Bordered}
 
--- what a candidate gives where it passed, else none
-abbrev pub ifPassed : {A : Type 0} → Candidate → A → Option A
-ifPassed Passed a = some a
-ifPassed Rejected a = none
+-- a list, where the candidate passed
+unfoldable pub ifPassed : Candidate → List ℕ → Option (List ℕ)
+ifPassed Passed vs = some vs
+ifPassed Rejected vs = none
 
-unfoldable pub listedOf : Bordered → Option (List ℕ)
-listedOf b = ifPassed (b .candidate) (rowsOf (b .list))
+-- its vectors, where there is one
+unfoldable pub listOf : Option (List ℕ) → List ℕ
+listOf none = []
+listOf (some vs) = vs

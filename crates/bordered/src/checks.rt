@@ -1,30 +1,29 @@
 // The two checks of a bordered candidate: `validate` of the family, and `verifies_bordered_decomposition` of its list.
 use actions::Action;
 use binar::Row;
-use blocks::Block;
-use family::Family;
+use family::MOST_VECTORS;
 ghost use mathlib.Core.Path.{_≡_};
 ghost use mathlib.Core.Bool.{_&&_, not};
-ghost use Prim.Native.Nat.{ℕ, suc, _+_, _-_};
+ghost use Prim.Native.Nat.{ℕ, suc, _+_, _-_, _≤_};
 ghost use lib.Dec.{eqb, leb};
 ghost use lib.ListN.{length};
 ghost use Rattle.binar.specs.Bits.{odd, _⊻_, dot};
 ghost use Rattle.binar.specs.Rows.{val};
-ghost use Rattle.blocks.specs.Blocks.{rowsOf};
 ghost use Rattle.blocks.specs.Words.{rowsIn};
 ghost use Rattle.symplectic.specs.Turns.{allOf, product};
 ghost use Rattle.actions.specs.Actions.{qubits, matrix};
 ghost use Rattle.symplectic.specs.Matches.{fitAll, sameRows};
+ghost use Rattle.reduction.specs.Columns.{rank};
 ghost use Rattle.residue.specs.Residue.{form};
-ghost use Rattle.family.specs.Readings.{listOf};
+ghost use Rattle.family.specs.Readings.{mostVectors, marked};
 ghost use Rattle.bordered.specs.Checks.{relationSum, unitLower, validate as validateOf, verifiesBordered};
 
-fn none_zero(b: Block) -> bool
-    ensures { λ r. ⌜ r ≡ allOf (λ (v : ℕ). not (eqb v 0)) (rowsOf b) ⌝ }
+fn none_zero(w: &[u64]) -> bool
+    ensures { λ r. ⌜ r ≡ allOf (λ (v : ℕ). not (eqb v 0)) (rowsIn (now (w .entry))) ⌝ }
 {
-    let k = blocks::length_of(b);
+    let k = blocks::rows_in(w);
     for i in 0..k {
-        if binar::is_zero(b.rows[i]) {
+        if binar::is_zero(blocks::row(w, i)) {
             return false;
         }
     }
@@ -32,12 +31,12 @@ fn none_zero(b: Block) -> bool
 }
 
 // Whether each row has only columns below m.
-fn fit_all(m: usize, b: Block) -> bool
-    ensures { λ r. ⌜ r ≡ fitAll m (rowsOf b) ⌝ }
+fn fit_all(m: usize, w: &[u64]) -> bool
+    ensures { λ r. ⌜ r ≡ fitAll m (rowsIn (now (w .entry))) ⌝ }
 {
-    let k = blocks::length_of(b);
+    let k = blocks::rows_in(w);
     for i in 0..k {
-        if !binar::fits(b.rows[i], m) {
+        if !binar::fits(blocks::row(w, i), m) {
             return false;
         }
     }
@@ -77,19 +76,18 @@ fn gram(row: Row, v: Row, both: bool) -> bool
 }
 
 // Whether each row has a one on the diagonal, and none behind it.
-fn unit_lower(core: &[u64], f: Family) -> bool
-    ensures { λ r. ⌜ r ≡ unitLower (form (rowsIn (now (core .entry)))) (listOf f) ⌝ }
+fn unit_lower(core: &[u64], vectors: &[u64], peeled: usize) -> bool
+    ensures { λ r. ⌜ r ≡ unitLower (form (rowsIn (now (core .entry)))) (marked peeled (rowsIn (now (vectors .entry)))) ⌝ }
 {
-    let vectors = f.vectors;
-    let peeled = f.peeled;
-    let k = blocks::length_of(vectors);
+    let k = blocks::rows_in(vectors);
     for i in 0..k {
-        let row = blocks::times(vectors.rows[i], core);
-        if !gram(row, vectors.rows[i], both_related(peeled, i, i)) {
+        let v = blocks::row(vectors, i);
+        let row = matrices::times(v, core);
+        if !gram(row, v, both_related(peeled, i, i)) {
             return false;
         }
         for j in i + 1..k {
-            if gram(row, vectors.rows[j], both_related(peeled, i, j)) {
+            if gram(row, blocks::row(vectors, j), both_related(peeled, i, j)) {
                 return false;
             }
         }
@@ -98,40 +96,53 @@ fn unit_lower(core: &[u64], f: Family) -> bool
 }
 
 // The sum of the vectors in the relation.
-fn relation_sum(f: Family) -> Row
-    ensures { λ r. ⌜ val r ≡ relationSum (listOf f) ⌝ }
+fn relation_sum(vectors: &[u64], peeled: usize) -> Row
+    ensures { λ r. ⌜ val r ≡ relationSum (marked peeled (rowsIn (now (vectors .entry)))) ⌝ }
 {
-    let vectors = f.vectors;
-    let k = blocks::length_of(vectors);
+    let k = blocks::rows_in(vectors);
     let mut w = binar::zero();
-    for i in f.peeled..k {
-        w = binar::sum(w, vectors.rows[i]);
+    for i in peeled..k {
+        w = binar::sum(w, blocks::row(vectors, i));
     }
     w
 }
 
-// Whether a family on a core of rank r is valid.
-pub(crate) fn validate(r: usize, core: &[u64], f: Family) -> bool
-    ensures { λ x. ⌜ x ≡ validateOf r (form (rowsIn (now (core .entry)))) (listOf f) ⌝ }
+// Whether rows have rank r by their first r columns.
+fn full_rank(r: usize, vectors: &[u64]) -> bool
+    requires { ⌜ length (rowsIn (now vectors)) ≤ mostVectors ⌝ }
+    ensures { λ x. ⌜ x ≡ eqb (rank r (rowsIn (now (vectors .entry)))) r ⌝ }
 {
-    let vectors = f.vectors;
+    let mut rows = [0u64; MOST_VECTORS];
+    let mut transform = [0u64; MOST_VECTORS];
+    let mut pivots = [0; MOST_VECTORS];
+    let k = blocks::rows_in(vectors);
+    matrices::put_front(k, vectors, &mut rows);
+    let to = blocks::start(&rows, k);
+    reduction::row_reduce_with_transform(r, &mut rows[..to], &mut transform, &mut pivots) == r
+}
+
+// Whether a family on a core of rank r is valid.
+pub(crate) fn validate(r: usize, core: &[u64], vectors: &[u64], peeled: usize) -> bool
+    requires { ⌜ length (rowsIn (now vectors)) ≤ mostVectors ⌝ }
+    ensures { λ x. ⌜ x ≡ validateOf r (form (rowsIn (now (core .entry)))) (marked peeled (rowsIn (now (vectors .entry)))) ⌝ }
+{
     if !fit_all(r, vectors) {
         return false;
     }
-    let k = blocks::length_of(vectors);
+    let k = blocks::rows_in(vectors);
     if !one_more(k, r) {
         return false;
     }
-    if !odd_relation(k, f.peeled) {
+    if !odd_relation(k, peeled) {
         return false;
     }
-    if !unit_lower(core, f) {
+    if !unit_lower(core, vectors, peeled) {
         return false;
     }
-    if !binar::is_zero(relation_sum(f)) {
+    if !binar::is_zero(relation_sum(vectors, peeled)) {
         return false;
     }
-    reduction::rank(r, vectors) == r
+    full_rank(r, vectors)
 }
 
 // Whether the rows of lent words are the action's.
@@ -148,42 +159,42 @@ fn same_rows(w: &[u64], a: Action) -> bool
     true
 }
 
-// Whether the product of the rows of a block, made in lent words, is the action.
-fn is_product_in(a: Action, b: Block, w: &mut [u64]) -> bool
+// Whether the product of a list, made in lent words, is the action.
+fn is_product_in(a: Action, list: &[u64], w: &mut [u64]) -> bool
     requires { ⌜ length (rowsIn (now w)) ≡ qubits a + qubits a ⌝ }
-    ensures { λ r. ⌜ r ≡ sameRows (product (qubits a) (rowsOf b)) (matrix a) ⌝ }
+    ensures { λ r. ⌜ r ≡ sameRows (product (qubits a) (rowsIn (now (list .entry)))) (matrix a) ⌝ }
 {
     symplectic::put_identity(a.n, w);
-    let count = blocks::length_of(b);
+    let count = blocks::rows_in(list);
     for t in 0..count {
-        symplectic::follow(a.n, w, b.rows[t]);
+        symplectic::follow(a.n, w, blocks::row(list, t));
     }
     same_rows(&w[..], a)
 }
 
-// Whether the product of the rows of a block is the action.
-fn is_product(a: Action, b: Block) -> bool
-    ensures { λ r. ⌜ r ≡ sameRows (product (qubits a) (rowsOf b)) (matrix a) ⌝ }
+// Whether the product of a list is the action.
+fn is_product(a: Action, list: &[u64]) -> bool
+    ensures { λ r. ⌜ r ≡ sameRows (product (qubits a) (rowsIn (now (list .entry)))) (matrix a) ⌝ }
 {
     let n = symplectic::capped(a.n);
     let mut w = [0u64; symplectic::MOST_ROWS];
     let to = blocks::start(&w, n + n);
-    is_product_in(a, b, &mut w[..to])
+    is_product_in(a, list, &mut w[..to])
 }
 
 // Whether the vectors of a bordered list are r + 1, none zero, none out of width, with the action for their product.
-pub(crate) fn verifies_bordered_decomposition(a: Action, r: usize, vectors: Block) -> bool
-    ensures { λ x. ⌜ x ≡ verifiesBordered (qubits a) (matrix a) r (rowsOf vectors) ⌝ }
+pub(crate) fn verifies_bordered_decomposition(a: Action, r: usize, list: &[u64]) -> bool
+    ensures { λ x. ⌜ x ≡ verifiesBordered (qubits a) (matrix a) r (rowsIn (now (list .entry))) ⌝ }
 {
-    if !one_more(blocks::length_of(vectors), r) {
+    if !one_more(blocks::rows_in(list), r) {
         return false;
     }
-    if !none_zero(vectors) {
+    if !none_zero(list) {
         return false;
     }
     let n = symplectic::capped(a.n);
-    if !fit_all(n + n, vectors) {
+    if !fit_all(n + n, list) {
         return false;
     }
-    is_product(a, vectors)
+    is_product(a, list)
 }

@@ -3,17 +3,21 @@
 mod checks; // checks.rt: the check of a family, and that of its list
 
 use actions::Action;
-use blocks::Block;
+use binar::WIDTH;
 use family::Construction;
+use family::MOST_VECTORS;
 ghost use mathlib.Core.Path.{_≡_};
-ghost use mathlib.Core.Option.{none};
-ghost use Rattle.blocks.specs.Blocks.{rowsOf};
+ghost use mathlib.Core.Option.{some};
+ghost use Prim.Native.Nat.{_≤_};
+ghost use lib.ListN.{length};
 ghost use Rattle.blocks.specs.Matrices.{matmul};
-ghost use Rattle.blocks.specs.Words.{rowsIn};
+ghost use Rattle.blocks.specs.Words.{rowsIn, over};
 ghost use Rattle.actions.specs.Actions.{qubits, matrix};
 ghost use Rattle.triangular.specs.Readings.{coreIn};
-ghost use Rattle.bordered.specs.Checks.{checkedList, coreFamily};
-ghost use Rattle.bordered.specs.Readings.{listedOf};
+ghost use Rattle.family.specs.Family.{coreFamily};
+ghost use Rattle.family.specs.Readings.{mostVectors, marked};
+ghost use Rattle.bordered.specs.Checks.{checkedList};
+ghost use Rattle.bordered.specs.Readings.{ifPassed, listOf};
 
 // Whether the candidate passed both checks. A construction that was stuck counts as not passing.
 pub enum Candidate {
@@ -21,57 +25,61 @@ pub enum Candidate {
     Rejected,
 }
 
-// The list, where the candidate passed.
-pub struct Bordered {
-    pub candidate: Candidate,
-    pub list: Block,
-}
-
-fn rejected() -> Bordered
-    ensures { λ r. ⌜ listedOf r ≡ none ⌝ }
+// Puts each vector of a list times the rows of a basis over other rows.
+fn times_basis(vectors: &[u64], basis: &[u64], out: &mut [u64])
+    ensures { λ _. ⌜ rowsIn (now (out .exit)) ≡ over (matmul (rowsIn (now (vectors .entry))) (rowsIn (now (basis .entry)))) (rowsIn (now (out .entry))) ⌝ }
 {
-    Bordered {
-        candidate: Candidate::Rejected,
-        list: blocks::empty(),
-    }
-}
-
-// Each vector of a block times the rows of lent words.
-fn times_basis(vectors: Block, basis: &[u64]) -> Block
-    ensures { λ r. ⌜ rowsOf r ≡ matmul (rowsOf vectors) (rowsIn (now (basis .entry))) ⌝ }
-{
-    let k = blocks::length_of(vectors);
-    let mut list = blocks::empty();
+    let k = blocks::lesser(blocks::rows_in(vectors), blocks::rows_in(out));
     for i in 0..k {
-        list.rows[i] = blocks::times(vectors.rows[i], basis);
+        blocks::put(out, i, matrices::times(blocks::row(vectors, i), basis));
     }
-    list.count = k;
-    list
+}
+
+// The vectors of a family times the basis, put over a lent list where both checks pass.
+fn checked(
+    a: Action,
+    basis: &[u64],
+    core: &[u64],
+    vectors: &[u64],
+    peeled: usize,
+    list: &mut [u64],
+) -> Candidate
+    requires { ⌜ length (rowsIn (now vectors)) ≤ mostVectors ⌝ }
+    ensures { λ r. ⌜ (let v = checkedList (qubits a) (matrix a) (rowsIn (now (basis .entry))) (rowsIn (now (core .entry))) (some (marked peeled (rowsIn (now (vectors .entry))))) in
+        (ifPassed r (listOf v) ≡ v) × (rowsIn (now (list .exit)) ≡ over (listOf v) (rowsIn (now (list .entry))))) ⌝ }
+{
+    let r = blocks::rows_in(basis);
+    if !checks::validate(r, core, vectors, peeled) {
+        return Candidate::Rejected;
+    }
+    let mut made = [0u64; MOST_VECTORS];
+    times_basis(vectors, basis, &mut made);
+    let k = blocks::rows_in(vectors);
+    let to = blocks::start(&made, k);
+    if !checks::verifies_bordered_decomposition(a, r, &made[..to]) {
+        return Candidate::Rejected;
+    }
+    matrices::put_front(k, &made, list);
+    Candidate::Passed
 }
 
 // Each vector of a valid family of the core times the basis, where these are verified for the action: its bordered list, if they are the
-// core of the action and the basis of its residue.
-pub fn bordered_list(a: Action, basis: &[u64], core: &[u64]) -> Bordered
-    ensures { λ r. ⌜ listedOf r ≡ checkedList (qubits a) (matrix a) (rowsIn (now (basis .entry))) (rowsIn (now (core .entry))) (coreFamily (coreIn (now (core .entry)))) ⌝ }
+// core of the action and the basis of its residue. A list that passed is put over a lent one, which else stays as it was.
+pub fn bordered_list(a: Action, basis: &[u64], core: &[u64], list: &mut [u64]) -> Candidate
+    ensures passed { λ r. ⌜ (let v = checkedList (qubits a) (matrix a) (rowsIn (now (basis .entry))) (rowsIn (now (core .entry))) (coreFamily (coreIn (now (core .entry)))) in ifPassed r (listOf v) ≡ v) ⌝ }
+    ensures left { λ r. ⌜ rowsIn (now (list .exit))
+        ≡ over (listOf (checkedList (qubits a) (matrix a) (rowsIn (now (basis .entry))) (rowsIn (now (core .entry))) (coreFamily (coreIn (now (core .entry)))))) (rowsIn (now (list .entry))) ⌝ }
 {
-    let f = family::bordered_family(core);
+    let mut vectors = [0u64; MOST_VECTORS];
+    let f = family::bordered_family(core, &mut vectors);
     let construction = f.construction;
     match construction {
         Construction::Stuck => {
-            return rejected();
+            return Candidate::Rejected;
         }
         Construction::Made => {}
     }
-    let r = blocks::rows_in(basis);
-    if !checks::validate(r, core, f) {
-        return rejected();
-    }
-    let list = times_basis(f.vectors, basis);
-    if !checks::verifies_bordered_decomposition(a, r, list) {
-        return rejected();
-    }
-    Bordered {
-        candidate: Candidate::Passed,
-        list: list,
-    }
+    let k = blocks::lesser(WIDTH, blocks::rows_in(core));
+    let to = blocks::start(&vectors, k + 1);
+    checked(a, basis, core, &vectors[..to], f.peeled, list)
 }

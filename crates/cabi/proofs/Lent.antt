@@ -13,20 +13,13 @@ use Rattle.shorter.specs.declared.Chosen.{Chosen}
 use Rattle.shorter.specs.Shorter.{shorterReply, partOf}
 use Rattle.shorter.proofs.Promised.{Promised as Chooses, reply-list}
 use Rattle.transvection_exact.proofs.Answered.{Promised}
-use Rattle.cabi.specs.Lent.{lentNumber, readFigures}
+use Rattle.questions.specs.Answers.{lentNumber}
+use Rattle.cabi.specs.Lent.{readFigures}
 
 -- ---- a lent number
 
-module _ (r value before : ℕ) where
-  lent-answer : (now : ℕ) → now ≡ lentNumber r value before → r ≡ 0 → now ≡ value
-  lent-answer now e z = e ∙ ap (λ (k : ℕ). lentNumber k value before) z
-
-  pub lent-refusal : (r ≡ 0 → ⊥) → before ≡ lentNumber r value before
-  lent-refusal h = go r h
-    where
-      go : (k : ℕ) → (k ≡ 0 → ⊥) → before ≡ lentNumber k value before
-      go zero f = absurd (f refl)
-      go (suc k) f = refl
+lent-answer : (r value before now : ℕ) → now ≡ lentNumber r value before → r ≡ 0 → now ≡ value
+lent-answer r value before now e z = e ∙ ap (λ (k : ℕ). lentNumber k value before) z
 
 -- ---- the figures read off them
 

@@ -1,14 +1,9 @@
--- What a call leaves in a lent number, and the figures that a caller reads off the number that it returns.
+-- The figures that a caller reads off the number that a call returns and the lent numbers.
 -- Assumes nothing.
 use mathlib.Core.Bool.{cond}
 use Prim.Native.Nat.{ℕ, zero, suc}
 use lib.Dec.{eqb}
 use Rattle.questions.specs.declared.Figures.{Figures}
-
--- a lent number after the call: the value of an answer; a refusal leaves what was there
-abbrev pub lentNumber : ℕ → ℕ → ℕ → ℕ
-lentNumber zero value before = value
-lentNumber (suc number) value before = before
 
 -- the figures read off a returned number and the lent numbers: a refusal's count is 0, and its looks are 0, at 6 the budget; at 7 the
 -- looks drawn are not told, and 0 stands for them

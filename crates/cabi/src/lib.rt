@@ -14,16 +14,8 @@ ghost use Rattle.transvection.specs.Greedy.{greedyReply};
 ghost use Rattle.transvection_exact.specs.Minimal.{minimalReply};
 ghost use Rattle.transvection_exact.specs.Answers.{Shortest, Exact};
 ghost use Rattle.gates.specs.Sequences.{sequenceTurns, gatesReply};
-ghost use Rattle.cabi.specs.Lent.{lentNumber, readFigures};
-
-// An answer's value put into a lent number; a refusal leaves it as it was.
-fn tell(number: u64, value: u64, lent: &mut u64)
-    ensures { λ _. ⌜ now (lent .exit) ≡ lentNumber number value (now (lent .entry)) ⌝ }
-{
-    if number == 0 {
-        *lent = value;
-    }
-}
+ghost use Rattle.questions.specs.Answers.{lentNumber};
+ghost use Rattle.cabi.specs.Lent.{readFigures};
 
 // The minimal list of an action, and the looks of its search.
 #[no_mangle]
@@ -45,8 +37,8 @@ pub extern "C" fn turnlist_minimal(
 {
     let answer = transvection_exact::clifford_to_transvections_minimal(n, rows, budget, out);
     let least = transvection_exact::figures_of(answer);
-    tell(least.number, least.count, count);
-    tell(least.number, least.looks, looks);
+    questions::tell(least.number, least.count, count);
+    questions::tell(least.number, least.looks, looks);
     least.number
 }
 
@@ -61,7 +53,7 @@ pub extern "C" fn turnlist_greedy(n: u64, rows: &[u64], out: &mut [u64], count: 
 {
     let answer = transvection::clifford_to_transvections(n, rows, out);
     let greedy = questions::figures_of(answer);
-    tell(greedy.number, greedy.count, count);
+    questions::tell(greedy.number, greedy.count, count);
     greedy.number
 }
 
@@ -83,7 +75,7 @@ pub extern "C" fn turnlist_fixed_space(
 {
     let answer = fixed_space::clifford_fixed_space(n, rows, out);
     let fixed = questions::figures_of(answer);
-    tell(fixed.number, fixed.count, count);
+    questions::tell(fixed.number, fixed.count, count);
     fixed.number
 }
 
@@ -97,7 +89,7 @@ pub extern "C" fn turnlist_rebuild(n: u64, vectors: &[u64], out: &mut [u64], cou
 {
     let answer = rebuild::rebuild(n, vectors, out);
     let product = rebuild::figures_of(answer);
-    tell(product.number, product.count, count);
+    questions::tell(product.number, product.count, count);
     product.number
 }
 
@@ -119,7 +111,7 @@ pub extern "C" fn turnlist_shorter(
 {
     let answer = shorter::choose(n, rows, first, second);
     let shorter = shorter::chosen_of(answer);
-    tell(shorter.number, shorter.list, chosen);
+    questions::tell(shorter.number, shorter.list, chosen);
     shorter.number
 }
 
@@ -133,6 +125,6 @@ pub extern "C" fn turnlist_gates(n: u64, gates: &[u8], out: &mut [u64], count: &
 {
     let answer = gates::gate_action(n, gates, out);
     let action = gates::figures_of(answer);
-    tell(action.number, action.count, count);
+    questions::tell(action.number, action.count, count);
     action.number
 }

@@ -10,14 +10,14 @@ use lib.Seq.{getD-take, getD-drop, getD-append-add, length-take-le, take-take, t
 use Rattle.binar.specs.Bits.{select, _⊕_, dot}
 use Rattle.blocks.specs.Matrices.{times, matmul}
 use Rattle.blocks.proofs.Firsts.{First}
-use Rattle.blocks.proofs.Products.{times-sum, matmul-is}
+use Rattle.blocks.proofs.Products.{times-sum, matmul-is, row-times}
 use Rattle.blocks.proofs.Units.{take-map}
 use Rattle.blocks.proofs.Values.{map-get}
 use Rattle.linear.proofs.Instances.{𝕎}
 use Rattle.linear.proofs.Maps.{map-at}
 use Rattle.triangular.specs.Spaces.{complement}
 use Rattle.triangular.proofs.Complements.{complement-at}
-use Rattle.triangular.proofs.Cores.{row-times, core-row}
+use Rattle.triangular.proofs.Cores.{core-row}
 
 take-matmul : (n : ℕ) (A E : List ℕ) → take n (matmul A E) ≡ matmul (take n A) E
 take-matmul n A E = ap (take n) (matmul-is A E) ∙ take-map (λ a. times a E) n A ∙ sym (matmul-is (take n A) E)

@@ -5,3 +5,4 @@ pub mod Others
 pub mod Simplices
 pub mod Peeling
 pub mod Marked
+pub mod Sizes

@@ -1,17 +1,18 @@
--- The list of a family, whose first vectors are not in the relation: one vector more, its vectors, how many there are, and each with its bit.
+-- The list of a family, whose first vectors are not in the relation: one vector more, its vectors, how many there are, and each with its bit. A family of the code.
 -- Assumes nothing.
 use mathlib.Core.Path.{_≡_, refl, sym, ap, _∙_}
-use mathlib.Core.Bool.{true, false}
+use mathlib.Core.Bool.{Bool, true, false}
 use mathlib.Core.List.{List, [], _∷_, map}
-use mathlib.Core.Option.{none, some}
+use mathlib.Core.Option.{Option, none, some}
 use Prim.Native.Nat.{ℕ, zero, suc, _<_}
 use native.Mathlib.Nat.{le-of-suc-le-suc, not-suc-le-zero}
 use lib.Dec.{leb, leb·zero, leb·suc-zero, leb·suc-suc}
 use lib.ListN.{length, getD}
-use Rattle.blocks.specs.Blocks.{rowsOf}
+use Rattle.family.specs.declared.Construction.{Construction}
 use Rattle.family.specs.declared.Construction.the-variants.{Made, Stuck}
 use Rattle.family.specs.declared.Family.{Family}
-use Rattle.family.specs.Readings.{ifMade, marked, listOf, familyOf}
+use Rattle.family.specs.Family.{vectorsOf}
+use Rattle.family.specs.Readings.{ifMade, marked, familyOf}
 
 -- ---- vector by vector
 
@@ -54,23 +55,31 @@ marked-at (suc k) (v ∷ vs) zero h = ap (λ b. (v, b)) (sym (leb·suc-zero k))
 marked-at (suc k) (v ∷ vs) (suc i) h =
     marked-at k vs i (le-of-suc-le-suc h) ∙ ap (λ b. (getD vs i 0, b)) (sym (leb·suc-suc k i))
 
--- ---- a family of the code
+-- ---- a family of the code, with its vectors
 
-module _ (f : Family) where
-  pub list-marked : listOf f ≡ marked (f .peeled) (rowsOf (f .vectors))
-  unfolding listOf
-  list-marked = refl
-
-  pub list-vectors : map (λ a. a .0) (listOf f) ≡ rowsOf (f .vectors)
-  list-vectors = ap (map (λ a. a .0)) list-marked ∙ marked-vectors (f .peeled) (rowsOf (f .vectors))
-
-  pub list-length : length (listOf f) ≡ length (rowsOf (f .vectors))
-  list-length = ap length list-marked ∙ marked-length (f .peeled) (rowsOf (f .vectors))
-
-  pub family-of-made : f .construction ≡ Made → familyOf f ≡ some (listOf f)
+module _ (f : Family) (vs : List ℕ) where
+  pub family-of-made : f .construction ≡ Made → familyOf f vs ≡ some (marked (f .peeled) vs)
   unfolding familyOf
-  family-of-made e = ap (λ c. ifMade c (listOf f)) e
+  family-of-made e = ap (λ c. ifMade c (marked (f .peeled) vs)) e
 
-  pub family-of-stuck : f .construction ≡ Stuck → familyOf f ≡ none
+  pub family-of-stuck : f .construction ≡ Stuck → familyOf f vs ≡ none
   unfolding familyOf
-  family-of-stuck e = ap (λ c. ifMade c (listOf f)) e
+  family-of-stuck e = ap (λ c. ifMade c (marked (f .peeled) vs)) e
+
+  -- it is the family v
+  module _ (v : Option (List (ℕ × Bool))) (is : familyOf f vs ≡ v) where
+    pub vectors-made : f .construction ≡ Made → vectorsOf v ≡ vs
+    unfolding vectorsOf
+    vectors-made e = ap vectorsOf (sym is ∙ family-of-made e) ∙ marked-vectors (f .peeled) vs
+
+    pub vectors-stuck : f .construction ≡ Stuck → vectorsOf v ≡ []
+    unfolding vectorsOf
+    vectors-stuck e = ap vectorsOf (sym is ∙ family-of-stuck e)
+
+    pub family-kept : familyOf f (vectorsOf v) ≡ v
+    unfolding familyOf vectorsOf
+    family-kept = go (f .construction) is
+      where
+        go : (c : Construction) → ifMade c (marked (f .peeled) vs) ≡ v → ifMade c (marked (f .peeled) (vectorsOf v)) ≡ v
+        go Made e = ap (λ o. some (marked (f .peeled) (vectorsOf o))) (sym e) ∙ ap (λ l. some (marked (f .peeled) l)) (marked-vectors (f .peeled) vs) ∙ e
+        go Stuck e = e

@@ -9,12 +9,11 @@ use lib.ListN.{length, getD, drop, length-drop, length-map}
 use lib.Seq.{getD-drop}
 use Rattle.binar.specs.Bits.{select, _⊕_}
 use Rattle.blocks.specs.Matrices.{times, matmul}
-use Rattle.blocks.proofs.Products.{times-sum}
+use Rattle.blocks.proofs.Products.{times-sum, row-times}
 use Rattle.blocks.proofs.Values.{without-before, without-behind, without-length, map-get}
 use Rattle.linear.proofs.Instances.{𝕎}
 use Rattle.linear.proofs.Maps.{map-at}
 use Rattle.residue.specs.Residue.{form}
-use Rattle.triangular.proofs.Cores.{row-times}
 use Rattle.family.specs.Family.{clearedOfPair}
 use Rattle.family.specs.inner.Parts.{othersOf, pairRest}
 

@@ -26,7 +26,7 @@ use Rattle.family.specs.inner.Parts.{behind, peeledBefore}
 -- ---- whether a member is dropped
 
 module _ (f : ℕ → Bool) where
-  any-drops : (bs : List ℕ) → anyOf f bs ≡ true → length bs ≡ suc (length (complement f bs))
+  pub any-drops : (bs : List ℕ) → anyOf f bs ≡ true → length bs ≡ suc (length (complement f bs))
   any-drops [] e = let z : _≡_ {A = ℕ} 0 1 = cc in absurd (omega arith)
   any-drops (m ∷ bs) e = go (f m) refl (any-drops bs) ∙ ap (λ l. suc (length l)) (sym (complement-cons f m bs))
     where

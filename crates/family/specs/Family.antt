@@ -7,7 +7,9 @@ use mathlib.Core.Option.{Option, none, some}
 use Prim.Native.Nat.{ℕ, zero, suc}
 use lib.ListN.{length}
 use Rattle.binar.specs.Bits.{select, _⊕_}
+use Rattle.blocks.specs.Matrices.{units}
 use Rattle.symplectic.specs.Picks.{orIf, mapSome, pick}
+use Rattle.residue.specs.Residue.{form}
 use Rattle.triangular.specs.Spaces.{complement}
 
 -- some member of a list passes the test
@@ -71,3 +73,15 @@ module _ (E : ℕ → ℕ → Bool) where
   unfoldable pub borderedFamily : ℕ → List ℕ → Option (List (ℕ × Bool))
   borderedFamily zero bs = related (symplecticSimplex (length bs) bs)
   borderedFamily (suc depth) bs = peeled bs (borderedFamily depth) (pick _⊕_ E bs)
+
+-- the family of a core, begun from unit vectors
+abbrev pub coreFamily : List ℕ → Option (List (ℕ × Bool))
+coreFamily E = borderedFamily (form E) (length E) (units (length E))
+
+-- the vectors of a family, where there is one
+abbrev pub vectors : List (ℕ × Bool) → List ℕ
+vectors l = map (λ a. a .0) l
+
+unfoldable pub vectorsOf : Option (List (ℕ × Bool)) → List ℕ
+vectorsOf none = []
+vectorsOf (some l) = vectors l

@@ -4,10 +4,13 @@ use mathlib.Core.Bool.{Bool, true, false}
 use mathlib.Core.List.{List, [], _∷_, map}
 use mathlib.Core.Option.{Option, none, some}
 use Prim.Native.Nat.{ℕ, zero, suc}
-use Rattle.blocks.specs.Blocks.{rowsOf}
 use Rattle.family.specs.declared.Construction.{Construction}
 use Rattle.family.specs.declared.Construction.the-variants.{Made, Stuck}
 use Rattle.family.specs.declared.Family.{Family}
+
+-- the most vectors of a family: one more than a row has columns. A plain number, open to users
+abbrev pub mostVectors : ℕ
+mostVectors = 65
 
 -- what a construction gives where it was made, else none
 abbrev pub ifMade : {A : Type 0} → Construction → A → Option A
@@ -20,9 +23,6 @@ marked zero vs = map (λ v. (v, true)) vs
 marked (suc k) [] = []
 marked (suc k) (v ∷ vs) = (v, false) ∷ marked k vs
 
--- the list of a family that was made
-unfoldable pub listOf : Family → List (ℕ × Bool)
-listOf f = marked (f .peeled) (rowsOf (f .vectors))
-
-unfoldable pub familyOf : Family → Option (List (ℕ × Bool))
-familyOf f = ifMade (f .construction) (listOf f)
+-- a family of the code, with its vectors
+unfoldable pub familyOf : Family → List ℕ → Option (List (ℕ × Bool))
+familyOf f vs = ifMade (f .construction) (marked (f .peeled) vs)

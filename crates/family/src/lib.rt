@@ -3,11 +3,9 @@
 // The first d rows of `basis` are the members of a space, those of `forms` their form rows: each member times the core.
 use binar::Row;
 use binar::WIDTH;
-use blocks::Block;
-use blocks::ROOM;
 ghost use mathlib.Core.Path.{_≡_};
 ghost use mathlib.Core.Bool.{true, false};
-ghost use mathlib.Core.List.{List, map};
+ghost use mathlib.Core.List.{List};
 ghost use Prim.Native.Nat.{ℕ, _+_, _-_, _≤_, _<_};
 ghost use lib.ListN.{length, getD, set, take, drop};
 ghost use Rattle.binar.specs.Bits.{select, _⊕_, dot};
@@ -18,9 +16,12 @@ ghost use Rattle.symplectic.specs.Picks.{mapSome, firstOne, unevenWith, firstUn
 ghost use Rattle.residue.specs.Residue.{form};
 ghost use Rattle.triangular.specs.Spaces.{complement};
 ghost use Rattle.triangular.specs.Readings.{coreIn};
-ghost use Rattle.family.specs.Family.{symplecticSimplex, borderedFamily};
+ghost use Rattle.family.specs.Family.{symplecticSimplex, borderedFamily, coreFamily, vectorsOf};
 ghost use Rattle.family.specs.Readings.{ifMade, familyOf};
-ghost use Rattle.family.specs.inner.Parts.{besideRow, pickedOf, othersOf, pairRest, behind, peeledBefore};
+ghost use Rattle.family.specs.inner.Parts.{besideRow, pickedOf, othersOf, pairRest, behind};
+
+// The most vectors of a family: one more than a row has columns.
+pub const MOST_VECTORS: usize = 65;
 
 // Whether a construction was made, or stuck where it found no partner or no member to drop.
 pub enum Construction {
@@ -28,10 +29,9 @@ pub enum Construction {
     Stuck,
 }
 
-// Vectors, of which the first `peeled` are not in the relation and the others are.
+// A family: of its vectors the first `peeled` are not in the relation, and the others are.
 pub struct Family {
     pub construction: Construction,
-    pub vectors: Block,
     pub peeled: usize,
 }
 
@@ -247,28 +247,12 @@ fn symplectic_simplex(
     Construction::Made
 }
 
-// The vectors peeled, which a list begins with, and behind them the simplex of the space, which is in the relation.
-fn joined(basis: &mut [u64], forms: &mut [u64], d: usize, list: &mut [u64], peeled: usize) -> Family
-    requires { ⌜ (peeled + d ≤ width) × (d ≤ length (rowsIn (now basis))) × (peeled + d < length (rowsIn (now list))) ⌝ }
-    ensures { λ r. ⌜ ((E : List ℕ) → matmul (take d (rowsIn (now (basis .entry)))) E ≡ take d (rowsIn (now (forms .entry)))
-        → familyOf r ≡ mapSome (peeledBefore (take peeled (rowsIn (now (list .entry))))) (mapSome (map (λ (v : ℕ). (v, true)))
-        (symplecticSimplex (form E) d (take d (rowsIn (now (basis .entry))))))) ⌝ }
-{
-    let construction = symplectic_simplex(basis, forms, d, list, peeled);
-    let end = blocks::start(list, peeled + d + 1);
-    // Rows with all columns: two for each qubit.
-    Family {
-        construction: construction,
-        vectors: blocks::from_words((WIDTH / 2) as u64, &list[..end]),
-        peeled: peeled,
-    }
-}
-
-// Peels while a vector is picked and a member is dropped for it.
+// Peels while a vector is picked and a member is dropped for it; behind the vectors peeled, which are put into a list, comes the simplex
+// of the rest.
 fn peel(basis: &mut [u64], forms: &mut [u64], k: usize, list: &mut [u64]) -> Family
     requires { ⌜ (k ≤ width) × (k ≤ length (rowsIn (now basis))) × (k < length (rowsIn (now list))) ⌝ }
     ensures { λ r. ⌜ ((E : List ℕ) → matmul (take k (rowsIn (now (basis .entry)))) E ≡ take k (rowsIn (now (forms .entry)))
-        → familyOf r ≡ borderedFamily (form E) k (take k (rowsIn (now (basis .entry))))) ⌝ }
+        → familyOf r (take (k + 1) (rowsIn (now (list .exit)))) ≡ borderedFamily (form E) k (take k (rowsIn (now (basis .entry))))) ⌝ }
 {
     let mut d = k;
     let mut peeled: usize = 0;
@@ -276,14 +260,17 @@ fn peel(basis: &mut [u64], forms: &mut [u64], k: usize, list: &mut [u64]) -> Fam
         let p = pick(basis, forms, d);
         match p {
             Picked::Nothing => {
-                return joined(basis, forms, d, list, peeled);
+                let construction = symplectic_simplex(basis, forms, d, list, peeled);
+                return Family {
+                    construction: construction,
+                    peeled: peeled,
+                };
             }
             Picked::Vector { member, row } => {
                 let j = first_dot(basis, 0, d, row);
                 if j == d {
                     return Family {
                         construction: Construction::Stuck,
-                        vectors: blocks::empty(),
                         peeled: 0,
                     };
                 }
@@ -308,14 +295,26 @@ fn put_whole(core: &[u64], d: usize, basis: &mut [u64], forms: &mut [u64])
     }
 }
 
-// Peels while a vector is picked and a member is dropped for it. Of a longer core the first binar::WIDTH rows are taken.
-pub fn bordered_family(core: &[u64]) -> Family
-    ensures { λ r. ⌜ familyOf r ≡ borderedFamily (form (coreIn (now (core .entry)))) (length (coreIn (now (core .entry)))) (units (length (coreIn (now (core .entry))))) ⌝ }
+// The family of a core: its vectors put over a lent list, which stays as it was where the construction is stuck. Of a longer core the
+// first binar::WIDTH rows are taken.
+pub fn bordered_family(core: &[u64], list: &mut [u64]) -> Family
+    ensures made { λ r. ⌜ familyOf r (vectorsOf (coreFamily (coreIn (now (core .entry))))) ≡ coreFamily (coreIn (now (core .entry))) ⌝ }
+    ensures left { λ _. ⌜ rowsIn (now (list .exit)) ≡ over (vectorsOf (coreFamily (coreIn (now (core .entry))))) (rowsIn (now (list .entry))) ⌝ }
 {
     let d = blocks::lesser(WIDTH, blocks::rows_in(core));
     let mut basis = [0u64; WIDTH];
     let mut forms = [0u64; WIDTH];
-    let mut list = [0u64; ROOM];
+    let mut vectors = [0u64; MOST_VECTORS];
     put_whole(core, d, &mut basis, &mut forms);
-    peel(&mut basis, &mut forms, d, &mut list)
+    let f = peel(&mut basis, &mut forms, d, &mut vectors);
+    let construction = f.construction;
+    match construction {
+        Construction::Made => {
+            matrices::put_front(d + 1, &vectors, list);
+            return f;
+        }
+        Construction::Stuck => {
+            return f;
+        }
+    }
 }

@@ -31,7 +31,7 @@ fn lay_basis(n: u64, m: usize, rows: &mut [u64], transform: &mut [u64], out: &mu
     let mut pivots = [0; MOST_ROWS];
     let r = reduction::row_reduce_with_transform(m, rows, transform, &mut pivots);
     let to = blocks::start(rows, r);
-    blocks::lay(n, &rows[..to], out);
+    matrices::lay(n, &rows[..to], out);
     r
 }
 

@@ -1,6 +1,6 @@
--- What the answer of the shared questions says, and that of a call which lists without a search.
+-- What the answer of the shared questions says, and that of a call which lists without a search; what a call leaves in a lent number.
 -- Assumes nothing.
-use Prim.Native.Nat.{ℕ}
+use Prim.Native.Nat.{ℕ, zero, suc}
 use Rattle.questions.specs.declared.Figures.{Figures}
 use Rattle.questions.specs.declared.Listing.{Listing}
 use Rattle.questions.specs.declared.Listing.the-variants as listing
@@ -23,3 +23,8 @@ figuresOf listing.WrongRowCount = record { number = 2; count = 0; looks = 0 }
 figuresOf listing.RowTooWide = record { number = 3; count = 0; looks = 0 }
 figuresOf listing.NotSymplectic = record { number = 4; count = 0; looks = 0 }
 figuresOf listing.OutputTooShort = record { number = 5; count = 0; looks = 0 }
+
+-- a lent number after the call: the value of an answer; a refusal leaves what was there. Open to users
+abbrev pub lentNumber : ℕ → ℕ → ℕ → ℕ
+lentNumber zero value before = value
+lentNumber (suc number) value before = before

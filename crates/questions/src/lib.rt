@@ -7,7 +7,7 @@ ghost use Rattle.blocks.specs.Words.{rowsOfWords};
 ghost use Rattle.symplectic.specs.Sizes.{capped as cappedOf};
 ghost use Rattle.symplectic.specs.Matches.{fitAll};
 ghost use Rattle.questions.specs.Replies.{actionQuestions, nothingListed};
-ghost use Rattle.questions.specs.Answers.{numberOf, figuresOf};
+ghost use Rattle.questions.specs.Answers.{numberOf, figuresOf, lentNumber};
 
 // The figures of a call's answer: 0 or the number of the question that was answered no, how many vectors or rows it listed, and how
 // many draws its search took.
@@ -118,5 +118,14 @@ pub fn figures_of(r: Listing) -> Figures
             count: 0,
             looks: 0,
         },
+    }
+}
+
+// An answer's value put into a lent number; a refusal leaves it as it was.
+pub fn tell(number: u64, value: u64, lent: &mut u64)
+    ensures { λ _. ⌜ now (lent .exit) ≡ lentNumber number value (now (lent .entry)) ⌝ }
+{
+    if number == 0 {
+        *lent = value;
     }
 }

@@ -97,7 +97,7 @@ fn residue_core_in(
     let n = symplectic::capped(a.n);
     residue(a, rows);
     let r = reduction::row_reduce_with_transform(n + n, rows, transform, &mut pivots);
-    blocks::put_front(r, rows, basis);
+    matrices::put_front(r, rows, basis);
     put_core(r, rows, transform, core);
     r
 }

@@ -9,13 +9,13 @@ use lib.Seq.{getD-take, length-take-le}
 use Rattle.binar.specs.Bits.{bit, dot}
 use Rattle.binar.proofs.Dots.{dot-comm}
 use Rattle.blocks.specs.Matrices.{times, matmul, dots, units}
-use Rattle.blocks.proofs.Products.{dots-sum, dot-times, bit-dots, times-unit, times-matmul, matmul-length}
+use Rattle.blocks.proofs.Products.{dots-sum, dot-times, bit-dots, times-unit, times-matmul, matmul-length, row-times}
 use Rattle.blocks.proofs.Units.{units-length, units-at, dots-units}
 use Rattle.blocks.proofs.Values.{map-get}
 use Rattle.linear.proofs.Rows.{map-times}
 use Rattle.residue.specs.Residue.{form}
 use Rattle.search.specs.inner.Levels.{gramOf}
-use Rattle.triangular.proofs.Cores.{row-times, form-dot}
+use Rattle.triangular.proofs.Cores.{form-dot}
 
 -- ---- its rows and bits
 

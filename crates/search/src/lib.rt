@@ -216,7 +216,7 @@ fn draw_at(basis: &[u64], at: usize, d: usize) -> Row
 {
     let from = blocks::start(basis, at);
     let to = blocks::start(basis, at + d);
-    blocks::times(blocks::row(basis, at + d), &basis[from..to])
+    matrices::times(blocks::row(basis, at + d), &basis[from..to])
 }
 
 // The draws that a search has kept, one of each level, put over a lent list.

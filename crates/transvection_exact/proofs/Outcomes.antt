@@ -3,9 +3,8 @@
 use mathlib.Core.Path.{_≡_, sym, ap, _∙_, subst}
 use mathlib.Core.List.{List}
 use mathlib.Core.Option.{Option, none, some}
-use Prim.Native.Nat.{ℕ, _+_, _≤_}
+use Prim.Native.Nat.{ℕ, suc, _+_, _≤_}
 use lib.ListN.{length}
-use Rattle.blocks.specs.Blocks.{rowsOf}
 use Rattle.blocks.specs.Words.{rowsIn}
 use Rattle.blocks.specs.Matrices.{units, matmul}
 use Rattle.blocks.proofs.Products.{matmul-is}
@@ -21,11 +20,12 @@ use Rattle.triangular.specs.Search.{found, failed, search, Verdict, ended, spen
 use Rattle.triangular.specs.Readings.{coreIn, verdictOf, basisFound}
 use Rattle.triangular.proofs.Budgets.{of-ended, says-found, says-failed, says-spent}
 use Rattle.triangular.proofs.Complete.{Right, search-right}
-use Rattle.bordered.specs.declared.Bordered.{Bordered}
-use Rattle.bordered.specs.Checks.{borderedList}
-use Rattle.bordered.specs.Readings.{listedOf}
+use Rattle.bordered.specs.declared.Candidate.{Candidate}
 use Rattle.bordered.specs.declared.Candidate.the-variants.{Passed, Rejected}
+use Rattle.bordered.specs.Checks.{borderedList}
+use Rattle.bordered.specs.Readings.{ifPassed, listOf}
 use Rattle.bordered.proofs.Listed.{core-fits, listed-passed, listed-rejected}
+use Rattle.bordered.proofs.Verified.{Passed as Checked, bordered-passed}
 use Rattle.transvection_exact.specs.Minimal.{coreSearch, borderedReply, searchedReply}
 
 module _ (n : ℕ) (F : List ℕ) (size : length F ≡ n + n) (small : n ≤ maxQubits) (budget : ℕ) (out : List ℕ) where
@@ -70,15 +70,20 @@ module _ (n : ℕ) (F : List ℕ) (size : length F ≡ n + n) (small : n ≤ max
         subst (Right (formOf (core n F)) r (units r)) (sym (of-ended budget (coreSearch n F) (found (basisFound verdict) (o .looks)) (sym (found-is e)) .0)) (search-right (formOf (core n F)) r (units r) 0 (units-length r)) .2
         ∙ sym (ap length is ∙ core-length n F)
 
-    -- the search fails: the bordered list, or none
-    module _ (fails : o .ending ≡ Failed) (b : Bordered) (by : listedOf b ≡ borderedList n F) where
-      bordered-by : (p : Option (List ℕ)) → listedOf b ≡ p → reply ≡ borderedReply n p (o .looks) out
+    -- the search fails: the bordered list v, or none
+    module _ (fails : o .ending ≡ Failed) (c : Candidate) (v : Option (List ℕ)) (by : v ≡ borderedList n F) (passes : ifPassed c (listOf v) ≡ v) where
+      bordered-by : (p : Option (List ℕ)) → v ≡ p → reply ≡ borderedReply n p (o .looks) out
       bordered-by p e =
           by-verdict (ended (failed (o .looks))) (sym came ∙ says-failed (o .ending) (o .looks) (basisFound verdict) fails)
           ∙ ap (λ (q : Option (List ℕ)). borderedReply n q (o .looks) out) (sym by ∙ e)
 
-      pub searched-unbordered : b .candidate ≡ Rejected → searchedReply n F (budgeted budget (coreSearch n F)) out ≡ refused 7 (o .looks) out
-      searched-unbordered e = bordered-by none (listed-rejected b e)
+      pub searched-unbordered : c ≡ Rejected → searchedReply n F (budgeted budget (coreSearch n F)) out ≡ refused 7 (o .looks) out
+      searched-unbordered e = bordered-by none (listed-rejected c v e passes)
 
-      pub searched-bordered : b .candidate ≡ Passed → searchedReply n F (budgeted budget (coreSearch n F)) out ≡ listed n (rowsOf (b .list)) (o .looks) out
-      searched-bordered e = bordered-by (some (rowsOf (b .list))) (listed-passed b e)
+      pub searched-bordered : (vs : List ℕ) → c ≡ Passed → vs ≡ listOf v → searchedReply n F (budgeted budget (coreSearch n F)) out ≡ listed n vs (o .looks) out
+      searched-bordered vs e l = bordered-by (some vs) (listed-passed c v e passes ∙ ap some (sym l))
+
+      -- one vector more than the core has rows
+      pub bordered-size : c ≡ Passed → length (listOf v) ≡ suc (length (rowsIn w))
+      bordered-size e =
+          subst (Checked n F) (sym by ∙ listed-passed c v e passes) (bordered-passed n F) .size ∙ ap suc (sym (ap length is ∙ core-length n F))

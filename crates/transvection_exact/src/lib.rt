@@ -2,14 +2,13 @@
 // In the source: transvection_exact.rs, `minimal_decomposition`, `clifford_to_transvections_minimal`.
 use actions::Action;
 use binar::WIDTH;
-use blocks::Block;
 use bordered::Candidate;
+use family::MOST_VECTORS;
 use questions::Figures;
 use questions::Question;
 use symplectic::MOST_ROWS;
 use triangular::Ending;
 ghost use mathlib.Core.Path.{_≡_};
-ghost use Rattle.blocks.specs.Blocks.{rowsOf};
 ghost use Rattle.blocks.specs.Matrices.{matmul};
 ghost use Rattle.blocks.specs.Words.{rowsIn};
 ghost use Rattle.actions.specs.Actions.{qubits, matrix};
@@ -79,14 +78,14 @@ pub fn figures_of(r: Minimal) -> Figures
     }
 }
 
-// The rows, of n qubits, laid into lent words.
-fn stored(n: u64, list: Block, looks: u64, out: &mut [u64]) -> Minimal
-    ensures answered { λ r. ⌜ figuresOf r ≡ listed n (rowsOf list) looks (now (out .entry)) .figures ⌝ }
-    ensures left { λ r. ⌜ now (out .exit) ≡ listed n (rowsOf list) looks (now (out .entry)) .words ⌝ }
+// The vectors of a list, of n qubits, laid into lent words.
+fn laid_out(n: u64, list: &[u64], looks: u64, out: &mut [u64]) -> Minimal
+    ensures answered { λ r. ⌜ figuresOf r ≡ listed n (rowsIn (now (list .entry))) looks (now (out .entry)) .figures ⌝ }
+    ensures left { λ r. ⌜ now (out .exit) ≡ listed n (rowsIn (now (list .entry))) looks (now (out .entry)) .words ⌝ }
 {
-    blocks::store(n, list, out);
+    matrices::lay(n, list, out);
     Minimal::Listed {
-        count: blocks::length_of(list) as u64,
+        count: blocks::rows_in(list) as u64,
         looks: looks,
     }
 }
@@ -96,7 +95,7 @@ fn multiplied(n: u64, list: &[u64], basis: &[u64], looks: u64, out: &mut [u64]) 
     ensures answered { λ r. ⌜ figuresOf r ≡ listed n (matmul (rowsIn (now (list .entry))) (rowsIn (now (basis .entry)))) looks (now (out .entry)) .figures ⌝ }
     ensures left { λ r. ⌜ now (out .exit) ≡ listed n (matmul (rowsIn (now (list .entry))) (rowsIn (now (basis .entry)))) looks (now (out .entry)) .words ⌝ }
 {
-    blocks::multiply(n, list, basis, out);
+    matrices::multiply(n, list, basis, out);
     Minimal::Listed {
         count: blocks::rows_in(list) as u64,
         looks: looks,
@@ -124,16 +123,16 @@ fn from_core(a: Action, basis: &[u64], core: &[u64], budget: u64, out: &mut [u64
         }
         Ending::Failed => {}
     }
-    let b = bordered::bordered_list(a, basis, core);
-    let candidate = b.candidate;
+    let mut bordered = [0u64; MOST_VECTORS];
+    let candidate = bordered::bordered_list(a, basis, core, &mut bordered);
     match candidate {
         Candidate::Rejected => {
             return Minimal::NotBordered { looks: looks };
         }
         Candidate::Passed => {}
     }
-    let bordered = b.list;
-    stored(n, bordered, looks, out)
+    let to = blocks::start(&bordered, blocks::rows_in(core) + 1);
+    laid_out(n, &bordered[..to], looks, out)
 }
 
 // Questions 6 and 7 of an action.

@@ -1,21 +1,18 @@
 -- Spaces of a core E: the form row of a member is the member times E, so a form with it is a dot; and a core in lent words.
 -- Assumes nothing.
-use mathlib.Core.Path.{_≡_, refl, sym, ap, ap₂, _∙_, fun-ext}
+use mathlib.Core.Path.{_≡_, refl, sym, ap, _∙_, fun-ext}
 use mathlib.Core.Bool.{Bool}
 use mathlib.Core.List.{List}
 use Prim.Native.Nat.{ℕ}
-use lib.ListN.{getD, take, List·getD-map}
+use lib.ListN.{getD, take}
 use Rattle.binar.specs.Bits.{dot}
 use Rattle.binar.specs.Rows.{width}
 use Rattle.blocks.specs.Words.{rowsIn}
 use Rattle.blocks.specs.Matrices.{times, matmul}
-use Rattle.blocks.proofs.Products.{times-zero, matmul-is}
+use Rattle.blocks.proofs.Products.{row-times}
 use Rattle.residue.specs.Residue.{form}
 use Rattle.residue.proofs.Forms.{form-is}
 use Rattle.triangular.specs.Readings.{coreIn}
-
-pub row-times : (B E : List ℕ) (i : ℕ) → getD (matmul B E) i 0 ≡ times (getD B i 0) E
-row-times B E i = ap₂ (λ M d. getD M i d) (matmul-is B E) (sym (times-zero E)) ∙ List·getD-map (λ a. times a E) B i 0
 
 module _ (B G E : List ℕ) (is : matmul B E ≡ G) where
   pub core-row : (i : ℕ) → getD G i 0 ≡ times (getD B i 0) E

@@ -1,30 +1,33 @@
--- `bordered_list` lists what the two checks pass of the family of the core, by `unlisted` and `listed-by`.
+-- `bordered_list` has the family of the core checked, all of its vectors by `vectors-size`; where it is stuck there is none.
 -- Assumes nothing.
-use Rattle.bordered.proofs.Listed.{unlisted, listed-by}
-use Rattle.bordered.specs.Readings.{listedOf}
-use Rattle.bordered.specs.Checks.{verifiesBordered, checkedList, coreFamily}
-use Rattle.family.specs.declared.Construction.the-variants.{Made}
-use Rattle.triangular.specs.Readings.{coreIn}
-use Rattle.actions.specs.Actions.{qubits, matrix}
-use Rattle.symplectic.specs.Picks.{when}
-use Rattle.blocks.specs.Matrices.{matmul}
-use Rattle.blocks.specs.Blocks.{rowsOf}
-use Rattle.blocks.specs.Words.{rowsIn}
-use borrow.Author.Tests.{not-true, not-false}
+use mathlib.Core.Path.{_≡_, sym, ap, ap₂, _∙_, subst}
+use mathlib.Core.Bool.{Bool}
 use mathlib.Core.List.{List}
-use mathlib.Core.Option.{Option}
-use Prim.Native.Nat.{ℕ}
-use mathlib.Core.Bool.{Bool, true, false, _&&_}
-use mathlib.Core.Path.{_≡_, refl, sym, _∙_}
+use mathlib.Core.Option.{Option, some}
+use Prim.Native.Nat.{ℕ, _+_, _≤_}
+use native.Mathlib.Omega.{arith}
+use lib.ListN.{length, take, replicate, length-take}
+use Rattle.binar.specs.Rows.{width}
+use Rattle.blocks.specs.Words.{rowsIn}
+use Rattle.blocks.proofs.Lent.{lent-front}
+use Rattle.blocks.proofs.Overs.{over-front}
+use Rattle.symplectic.proofs.Work.{room-in, part-words}
+use Rattle.actions.specs.Actions.{qubits, matrix}
+use Rattle.triangular.specs.Readings.{coreIn}
+use Rattle.triangular.proofs.Cores.{core-in}
+use Rattle.family.specs.declared.Construction.the-variants.{Made, Stuck}
+use Rattle.family.specs.Family.{coreFamily, vectorsOf}
+use Rattle.family.specs.Readings.{mostVectors, marked}
+use Rattle.family.proofs.Marked.{family-of-made, family-of-stuck}
+use Rattle.family.proofs.Sizes.{vectors-size}
+use Rattle.bordered.specs.Checks.{checkedList}
+use Rattle.bordered.proofs.Listed.{Put, put-rejected, unlisted}
 use borrow.Author.Needs.{needs}
 use Rattle.bordered.proofs.bordered_list.Statement.{statement}
 use Rattle.bordered.proofs.bordered_list.Tie as tie
 
--- what is to be listed
-abbrev wanted : tie.Start → Option (List ℕ)
-wanted c =
-    let s = c .args in
-    checkedList (qubits (s .a)) (matrix (s .a)) (rowsIn (s .basis .now)) (rowsIn (s .core .now)) (coreFamily (coreIn (s .core .now)))
+slice-aggregate-bordered-family : tie.Need-slice-aggregate-bordered-family
+slice-aggregate-bordered-family c = search needs
 
 bordered-family-requires : tie.Need-bordered-family-requires
 bordered-family-requires c κs = search needs
@@ -32,16 +35,14 @@ bordered-family-requires c κs = search needs
 enum-told : tie.Need-enum-told
 enum-told c = search needs
 
-rejected-requires : tie.Need-rejected-requires
-rejected-requires c κs = search needs
-
 returns : tie.Need-returns
 returns c =
-    let s = c .before .before .before .before .before .before .args in
+    let s = c .before .before .before .before .before .before .before .before .args in
     let f = c .before .before .before .bordered-family in
-    c .rejected .ensures
-    ∙ unlisted (qubits (s .a)) (matrix (s .a)) (rowsIn (s .basis .now)) (rowsIn (s .core .now)) (f .result) (coreFamily (coreIn (s .core .now))) (f .ensures)
-    (search (needs, c .before .enum-told .given))
+    let family = coreFamily (coreIn (s .core .now)) in
+    let stuck : f .result .construction ≡ Stuck = search (needs, c .enum-told .given) in
+    put-rejected (rowsIn (s .list .now)) (checkedList (qubits (s .a)) (matrix (s .a)) (rowsIn (s .basis .now)) (rowsIn (s .core .now)) family)
+    (unlisted (qubits (s .a)) (matrix (s .a)) (rowsIn (s .basis .now)) (rowsIn (s .core .now)) family (sym (f .ensures .0) ∙ family-of-stuck (f .result) (vectorsOf family) stuck))
 
 enum-told-2 : tie.Need-enum-told-2
 enum-told-2 c = search needs
@@ -49,72 +50,71 @@ enum-told-2 c = search needs
 rows-in-requires : tie.Need-rows-in-requires
 rows-in-requires c κs = search needs
 
-validate-requires : tie.Need-validate-requires
-validate-requires c κs = search needs
+lesser-requires : tie.Need-lesser-requires
+lesser-requires c κs = search needs
 
--- the list vs, by what the two checks say
-checked : (c : tie.After-validate) (vs : List ℕ) → vs ≡ matmul (rowsOf (c .before .before .before .before .bordered-family .result .vectors)) (rowsIn (c .before .before .before .before .before .before .before .args .basis .now))
-    → (s t : Bool) → c .validate .result ≡ s → t ≡ verifiesBordered (qubits (c .before .before .before .before .before .before .before .args .a)) (matrix (c .before .before .before .before .before .before .before .args .a)) (c .before .rows-in .result) vs
-    → when (s && t) vs ≡ wanted (c .before .before .before .before .before .before .before)
-checked c vs is s t valid verified =
-    let a = c .before .before .before .before .before .before .before .args in
-    let f = c .before .before .before .before .bordered-family in
-    let made : f .result .construction ≡ Made = search (needs, c .before .before .enum-told2 .given) in
-    listed-by (qubits (a .a)) (matrix (a .a)) (rowsIn (a .basis .now)) (rowsIn (a .core .now)) (f .result) (coreFamily (coreIn (a .core .now))) (f .ensures) made
-    (c .before .rows-in .result) (c .before .rows-in .ensures) vs is s t (sym valid ∙ c .validate .ensures) verified
+slice-aggregate-start : tie.Need-slice-aggregate-start
+slice-aggregate-start c = search needs
 
-rejected-requires-2 : tie.Need-rejected-requires-2
-rejected-requires-2 c κs = search needs
+add-start : tie.Need-add-start
+add-start c = omega (arith, c .before .lesser .ensures)
+
+start-requires : tie.Need-start-requires
+start-requires c κs = search needs
+
+array-share-prefix-vectors : tie.Need-array-share-prefix-vectors
+array-share-prefix-vectors c = search needs
+
+-- the rows that are checked: the vectors of the family
+whole : (c : tie.After-start) → let family = coreFamily (coreIn (c .before .before .before .before .before .before .before .before .before .before .before .before .args .core .now)) in
+    (rowsIn (take (c .start .result) (c .before .before .before .before .before .before .before .bordered-family .last .1 .0)) ≡ vectorsOf family) × (length (vectorsOf family) ≤ mostVectors)
+whole c =
+    let core = c .before .before .before .before .before .before .before .before .before .before .before .before .args .core .now in
+    let f = c .before .before .before .before .before .before .before .bordered-family in
+    let family = coreFamily (coreIn core) in
+    let made : f .result .construction ≡ Made = search (needs, c .before .before .before .before .enum-told2 .given) in
+    let size = vectors-size (coreIn core) (f .result) (f .ensures .0) made in
+    let k = c .before .before .lesser in
+    let count : length (coreIn core) ≡ k .result = ap length (core-in core) ∙ length-take width (rowsIn core) ∙ sym (k .ensures ∙ omega (arith, c .before .before .before .rows-in .ensures)) in
+    let zeros = rowsIn (replicate mostVectors 0) in
+    let few : length (vectorsOf family) ≤ mostVectors = omega (arith, size, count, k .ensures) in
+    let one : k .result + 1 ≡ length (vectorsOf family) = omega (arith, size, count) in
+    (lent-front (k .result + 1) (c .start .result) (f .last .1 .0) (c .start .ensures) ∙ ap₂ take one (f .ensures .1) ∙ over-front (vectorsOf family) zeros (room-in mostVectors (length (vectorsOf family)) few), few)
+
+slice-aggregate-checked : tie.Need-slice-aggregate-checked
+slice-aggregate-checked c = part-words (c .before .before .before .lesser .result + 1) (c .before .start .result) (c .before .before .before .before .before .before .before .before .bordered-family .last .1 .0) (c .before .start .ensures)
+
+checked-requires : tie.Need-checked-requires
+checked-requires c κs = let all = whole (c .before .before) in omega (arith, ap length (all .0), all .1)
+
+same-length : tie.Need-same-length
+same-length c = search needs
 
 returns-2 : tie.Need-returns-2
 returns-2 c =
-    let s = c .before .before in
-    let a = s .before .before .before .before .before .before .before .args in
-    let vs = matmul (rowsOf (s .before .before .before .before .bordered-family .result .vectors)) (rowsIn (a .basis .now)) in
-    c .rejected2 .ensures
-    ∙ checked s vs refl false (verifiesBordered (qubits (a .a)) (matrix (a .a)) (s .before .rows-in .result) vs) (not-true (s .validate .result) (c .before .if1 .taken)) refl
-
-times-basis-requires : tie.Need-times-basis-requires
-times-basis-requires c κs = search needs
-
-verifies-bordered-decomposition-requires : tie.Need-verifies-bordered-decomposition-requires
-verifies-bordered-decomposition-requires c κs = search needs
-
--- a valid family, by what the second check says
-verified : (c : tie.After-verifies-bordered-decomposition) (t : Bool) → c .verifies-bordered-decomposition .result ≡ t
-    → when t (rowsOf (c .before .times-basis .result)) ≡ wanted (c .before .before .before .before .before .before .before .before .before .before)
-verified c t e =
-    let s = c .before .before .before in
-    let p = c .before .times-basis in
-    checked s (rowsOf (p .result)) (p .ensures) true t (not-false (s .validate .result) (c .before .before .if1 .left)) (sym e ∙ c .verifies-bordered-decomposition .ensures)
-
-rejected-requires-3 : tie.Need-rejected-requires-3
-rejected-requires-3 c κs = search needs
-
-returns-3 : tie.Need-returns-3
-returns-3 c =
-    let s = c .before .before in
-    c .rejected3 .ensures ∙ verified s false (not-true (s .verifies-bordered-decomposition .result) (c .before .if2 .taken))
-
-returns-4 : tie.Need-returns-4
-unfolding listedOf
-returns-4 c = verified (c .before) true (not-false (c .before .verifies-bordered-decomposition .result) (c .if2 .left))
+    let s = c .before .before .before .before .before .before .before .before .before .before .before .before .before .before .before .before .before .args in
+    let f = c .before .before .before .before .before .before .before .before .before .before .before .before .bordered-family in
+    let family = coreFamily (coreIn (s .core .now)) in
+    let made : f .result .construction ≡ Made = search (needs, c .before .before .before .before .before .before .before .before .before .enum-told2 .given) in
+    let is = ap (λ (vs : List ℕ). some (marked (f .result .peeled) vs)) (whole (c .before .before .before .before .before) .0) ∙ sym (family-of-made (f .result) (vectorsOf family) made) ∙ f .ensures .0 in
+    subst (λ (o : Option (List (ℕ × Bool))). Put (c .before .before .checked .result) (rowsIn (s .list .now)) (rowsIn (c .before .before .checked .last .1 .1 .1 .1 .1 .0)) (checkedList (qubits (s .a)) (matrix (s .a)) (rowsIn (s .basis .now)) (rowsIn (s .core .now)) o)) is (c .before .before .checked .ensures)
 
 pub bordered-list-spec : {M : Type 1} → statement M
 bordered-list-spec =
     tie.close
     (tie.spec
+    slice-aggregate-bordered-family
     bordered-family-requires
     enum-told
-    rejected-requires
     returns
     enum-told-2
     rows-in-requires
-    validate-requires
-    rejected-requires-2
-    returns-2
-    times-basis-requires
-    verifies-bordered-decomposition-requires
-    rejected-requires-3
-    returns-3
-    returns-4)
+    lesser-requires
+    slice-aggregate-start
+    add-start
+    start-requires
+    array-share-prefix-vectors
+    slice-aggregate-checked
+    checked-requires
+    same-length
+    returns-2)

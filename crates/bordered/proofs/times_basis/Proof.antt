@@ -1,51 +1,44 @@
--- `times_basis` writes the vectors times the basis one by one.
+-- `times_basis` puts the vectors times the basis one by one, by `over-next`.
 -- Assumes nothing.
 use mathlib.Core.Path.{_≡_, refl, sym, ap, _∙_}
-use Prim.Native.Nat.{ℕ, _-_, _≤_, _<_}
-use lib.ListN.{length, take, length-set}
+use mathlib.Core.List.{_++_}
+use Prim.Native.Nat.{ℕ, _-_, _≤_}
 use native.Mathlib.Omega.{arith}
-use Rattle.blocks.specs.Blocks.{room, vals, rowsOf}
-use Rattle.blocks.specs.Words.{rowsIn}
+use lib.ListN.{length, take, drop}
 use Rattle.blocks.specs.Matrices.{times, matmul}
-use Rattle.blocks.proofs.Products.{matmul-length}
-use Rattle.blocks.proofs.Values.{rows-are, rows-get, rows-fit, write-next, write-end, unmapped}
-use Rattle.triangular.proofs.Cores.{row-times}
+use Rattle.blocks.specs.Words.{rowsIn}
+use Rattle.blocks.proofs.Overs.{over-next, over-end}
+use Rattle.blocks.proofs.Products.{matmul-length, row-times}
 use borrow.Author.Needs.{needs}
 use Rattle.bordered.proofs.times_basis.Statement.{statement}
 use Rattle.bordered.proofs.times_basis.Tie as tie
 
 abbrev Inv-loop : tie.InvT-loop
-Inv-loop basis vectors k list₀ i₀ list i =
-    (i ≤ k) × (k ≤ room) × (length (list .rows) ≡ room) × (take i (vals (list .rows)) ≡ take i (matmul (rowsOf vectors) (rowsIn basis)))
+Inv-loop vectors basis out₀ k i₀ out i = (i ≤ k) × (length out ≡ length out₀) × (rowsIn out ≡ take i (matmul (rowsIn vectors) (rowsIn basis)) ++ drop i (rowsIn out₀))
 
 abbrev μ-loop : tie.MeasureT-loop
-μ-loop basis vectors k list₀ i₀ list i = k - i
+μ-loop vectors basis out₀ k i₀ out i = k - i
 
-length-of-requires : tie.Need-length-of-requires Inv-loop μ-loop
-length-of-requires c κs = search needs
+rows-in-requires : tie.Need-rows-in-requires Inv-loop μ-loop
+rows-in-requires c κs = search needs
 
-empty-requires : tie.Need-empty-requires Inv-loop μ-loop
-empty-requires c κs = search needs
+rows-in-requires-2 : tie.Need-rows-in-requires-2 Inv-loop μ-loop
+rows-in-requires-2 c κs = search needs
+
+lesser-requires : tie.Need-lesser-requires Inv-loop μ-loop
+lesser-requires c κs = search needs
 
 loop-holds : tie.Need-loop-holds Inv-loop μ-loop
-loop-holds c =
-    let h = rows-fit (c .before .before .before .args .t1) (search (needs, unmapped)) in
-    (search needs, omega (arith, c .before .length-of .ensures), search (needs, unmapped), refl)
+loop-holds c = (search needs, refl, refl)
 
-mul-times : tie.Need-mul-times Inv-loop μ-loop
-mul-times c = search needs
-
-element-copy-out-times : tie.Need-element-copy-out-times Inv-loop μ-loop
-element-copy-out-times c = search needs
+row-requires : tie.Need-row-requires Inv-loop μ-loop
+row-requires c κs = search needs
 
 times-requires : tie.Need-times-requires Inv-loop μ-loop
 times-requires c κs = search needs
 
-mul-t14 : tie.Need-mul-t14 Inv-loop μ-loop
-mul-t14 c = search needs
-
-element-set-from-list : tie.Need-element-set-from-list Inv-loop μ-loop
-element-set-from-list c = search needs
+put-requires : tie.Need-put-requires Inv-loop μ-loop
+put-requires c κs = search needs
 
 add-i : tie.Need-add-i Inv-loop μ-loop
 add-i c = search needs
@@ -55,26 +48,29 @@ loop-less c = search needs
 
 loop-again : tie.Need-loop-again Inv-loop μ-loop
 loop-again c =
-    let s = c .before .before .before .before .before .before .before .args in
-    let at = c .before .before .before .loop in
-    let l = rowsOf (s .t1) in
+    let s = c .before .before .before .before .before .before .before .before .before .before .before .before .before .before .before .args in
+    let at = c .before .before .before .before .before .before .before .loop in
+    let vs = rowsIn (s .vectors .now) in
     let B = rowsIn (s .basis .now) in
-    let h : at .i < length l = omega (arith, c .before .before .before .before .before .length-of .ensures) in (
+    let k = c .before .before .before .before .before .before .before .before .lesser .ensures in
+    let room = c .before .before .before .before .before .before .before .before .before .rows-in2 .ensures in
+    let held = c .before .before .before .before .before .before .before .before .before .before .before .rows-in .ensures in
+    let v = c .before .before .before .times .ensures ∙ ap (λ (x : ℕ). times x B) (c .before .before .before .before .row .ensures) ∙ sym (row-times vs B (at .i)) in (
       search needs,
-      at .inv .1,
-      simp length-set (at .inv .2),
-      write-next (matmul l B) (at .list .rows) (at .i) (c .times .result) (omega (arith, matmul-length l B)) (omega (arith, at .inv .2)) (at .inv .3)
-          (c .times .ensures ∙ ap (λ (v : ℕ). times v B) (rows-get (s .t1) (at .i) h) ∙ sym (row-times l B (at .i))),
+      search needs,
+      c .before .before .put .ensures ∙ over-next (matmul vs B) (rowsIn (s .out .now)) (rowsIn (at .out)) (at .i) _ (omega (arith, matmul-length vs B, k, room, held)) (omega (arith, k, room, held)) (at .inv .2) v,
     )
+
+same-length : tie.Need-same-length Inv-loop μ-loop
+same-length c = search needs
 
 returns : tie.Need-returns Inv-loop μ-loop
 returns c =
-    let s = c .before .before .before .before .before .args in
+    let s = c .before .before .before .before .before .before .before .before .before .args in
     let at = c .before .loop in
-    let k = c .before .before .before .length-of in
-    let l = rowsOf (s .t1) in
+    let vs = rowsIn (s .vectors .now) in
     let B = rowsIn (s .basis .now) in
-    rows-are _ ∙ write-end (matmul l B) (at .list .rows) (at .i) (k .result) (omega arith) (k .ensures ∙ sym (matmul-length l B)) (at .inv .3)
+    at .inv .2 ∙ over-end (matmul vs B) (rowsIn (s .out .now)) (at .i) (omega (arith, matmul-length vs B, c .before .before .lesser .ensures, c .before .before .before .rows-in2 .ensures, c .before .before .before .before .before .rows-in .ensures))
 
 pub times-basis-spec : {M : Type 1} → statement M
 times-basis-spec =
@@ -82,15 +78,15 @@ times-basis-spec =
     (tie.spec
     Inv-loop
     μ-loop
-    length-of-requires
-    empty-requires
+    rows-in-requires
+    rows-in-requires-2
+    lesser-requires
     loop-holds
-    mul-times
-    element-copy-out-times
+    row-requires
     times-requires
-    mul-t14
-    element-set-from-list
+    put-requires
     add-i
     loop-less
     loop-again
+    same-length
     returns)

@@ -1,22 +1,24 @@
--- `bordered_family` peels the space of all rows as wide as the core, whose form rows are the core.
+-- `bordered_family` peels the space of all rows as wide as the core, whose form rows are the core, and puts what was made over the list.
 -- Assumes nothing.
 use mathlib.Core.Path.{_≡_, sym, ap, _∙_}
 use mathlib.Core.List.{List}
-use Prim.Native.Nat.{ℕ, _/_, min}
+use Prim.Native.Nat.{ℕ, _+_, _/_, min}
 use lib.ListN.{length, take, replicate, length-take}
 use lib.Seq.{length-take-le}
 use Rattle.binar.specs.Rows.{width}
-use Rattle.blocks.specs.Blocks.{room}
 use Rattle.blocks.specs.Matrices.{matmul, units}
-use Rattle.blocks.specs.Words.{rowsIn}
-use Rattle.blocks.proofs.Overs.{over-length}
+use Rattle.blocks.specs.Words.{rowsIn, over}
+use Rattle.blocks.proofs.Overs.{over-length, over-nil}
 use Rattle.blocks.proofs.Units.{units-length, matmul-units}
 use Rattle.blocks.proofs.Values.{rows-count, take-counted}
 use Rattle.residue.specs.Residue.{form}
 use Rattle.triangular.specs.Readings.{coreIn}
 use Rattle.triangular.proofs.Cores.{core-in}
-use Rattle.family.specs.Family.{borderedFamily}
+use Rattle.family.specs.declared.Construction.the-variants.{Made, Stuck}
+use Rattle.family.specs.Family.{borderedFamily, coreFamily}
+use Rattle.family.specs.Readings.{mostVectors, familyOf}
 use Rattle.family.proofs.Behind.{over-all}
+use Rattle.family.proofs.Marked.{vectors-made, vectors-stuck, family-kept}
 use native.Mathlib.Omega.{arith}
 use borrow.Author.Needs.{needs}
 use Rattle.family.proofs.bordered_family.Statement.{statement}
@@ -40,12 +42,12 @@ core-taken ws d e =
     let size : d ≡ length (take width (rowsIn ws)) = e ∙ sym (length-take width (rowsIn ws)) in
     (ap (λ n. take n (rowsIn ws)) size ∙ take-counted width (rowsIn ws) ∙ sym (core-in ws), size ∙ ap length (sym (core-in ws)))
 
--- as many rows as a local array has room for
+-- as many rows as a local array has mostVectors for
 many : length (rowsIn (replicate width 0)) ≡ width
 many = rows-count (width / 2) (replicate width 0)
 
-one-more : length (rowsIn (replicate room 0)) ≡ room
-one-more = rows-count (width / 2) (replicate room 0)
+one-more : length (rowsIn (replicate mostVectors 0)) ≡ mostVectors
+one-more = rows-count (width / 2) (replicate mostVectors 0)
 
 put-whole-requires : tie.Need-put-whole-requires
 put-whole-requires c κs =
@@ -68,20 +70,60 @@ peel-requires c κs =
     let put = ap length (c .before .before .before .before .before .put-whole .ensures .0) in
     (omega arith, omega (arith, many, over-length (units (c .before .before .before .before .before .before .before .before .lesser .result)) (rowsIn (replicate width 0))), omega (arith, one-more))
 
+-- the family of the core, in the words that it was made in
+made : (c : tie.After-peel) → let d = c .before .before .before .before .before .before .before .before .before .lesser .result in let core = c .before .before .before .before .before .before .before .before .before .before .before .before .before .args .core .now in
+    familyOf (c .peel .result) (take (d + 1) (rowsIn (c .peel .last .1 .1 .1 .0))) ≡ coreFamily (coreIn core)
+made c =
+    let core = c .before .before .before .before .before .before .before .before .before .before .before .before .before .args .core .now in
+    let rows = rowsIn core in
+    let d = c .before .before .before .before .before .before .before .before .before .lesser in
+    let put = c .before .before .before .before .before .before .put-whole .ensures in
+    let count = c .before .before .before .before .before .before .before .before .before .before .rows-in .ensures in
+    let is = core-taken core (d .result) (omega (arith, d .ensures, count)) in
+    let E = coreIn core in
+    let basis = over-all (units (d .result)) (rowsIn (replicate width 0)) _ (d .result) (put .0) (units-length (d .result)) (omega (arith, many, d .ensures)) in
+    let forms = over-all (take (d .result) rows) (rowsIn (replicate width 0)) _ (d .result) (put .1) (length-take-le (d .result) rows (omega (arith, d .ensures, count))) (omega (arith, many, d .ensures)) in
+    c .peel .ensures E (ap (λ (l : List ℕ). matmul l E) (basis ∙ ap units (is .1)) ∙ matmul-units E ∙ sym (forms ∙ is .0))
+    ∙ ap (borderedFamily (form E) (d .result)) basis ∙ ap (λ (n : ℕ). borderedFamily (form E) n (units n)) (is .1)
+
+enum-told : tie.Need-enum-told
+enum-told c = search needs
+
+add-put-front : tie.Need-add-put-front
+add-put-front c = search needs
+
+slice-aggregate-put-front : tie.Need-slice-aggregate-put-front
+slice-aggregate-put-front c = search needs
+
+put-front-requires : tie.Need-put-front-requires
+put-front-requires c κs = search needs
+
+same-length : tie.Need-same-length
+same-length c = search needs
+
 returns : tie.Need-returns
 returns c =
-    let core = c .before .before .before .before .before .before .before .before .before .before .before .before .before .before .before .args .core .now in
-    let rows = rowsIn core in
-    let d = c .before .before .before .before .before .before .before .before .before .before .before .before .lesser .result in
-    let put = c .before .before .before .before .before .before .before .before .before .put-whole .ensures in
-    let least = c .before .before .before .before .before .before .before .before .before .before .before .before .lesser .ensures in
-    let count = c .before .before .before .before .before .before .before .before .before .before .before .before .before .rows-in .ensures in
-    let is = core-taken core d (omega arith) in
-    let E = coreIn core in
-    let basis = over-all (units d) (rowsIn (replicate width 0)) _ d (put .0) (units-length d) (omega (arith, many)) in
-    let forms = over-all (take d rows) (rowsIn (replicate width 0)) _ d (put .1) (length-take-le d rows (omega arith)) (omega (arith, many)) in
-    c .before .before .before .peel .ensures E (ap (λ (l : List ℕ). matmul l E) (basis ∙ ap units (is .1)) ∙ matmul-units E ∙ sym (forms ∙ is .0))
-    ∙ ap (borderedFamily (form E) d) basis ∙ ap (λ (n : ℕ). borderedFamily (form E) n (units n)) (is .1)
+    let at = c .before .before .before .before .before .before .before .before .before .before in
+    let s = c .before .before .before .before .before .before .before .before .before .before .before .before .before .before .before .before .before .before .before .before .before .before .before .args in
+    let v = coreFamily (coreIn (s .core .now)) in
+    let f = at .peel .result in
+    let vs = take (c .before .before .before .before .before .before .before .before .before .before .before .before .before .before .before .before .before .before .before .lesser .result + 1) (rowsIn (at .peel .last .1 .1 .1 .0)) in
+    let told : f .construction ≡ Made = search (needs, c .before .before .before .before .before .enum-told .given) in
+    (family-kept f vs v (made at), c .before .before .put-front .ensures ∙ ap (λ (l : List ℕ). over l (rowsIn (s .list .now))) (sym (vectors-made f vs v (made at) told)))
+
+enum-told-2 : tie.Need-enum-told-2
+enum-told-2 c = search needs
+
+returns-2 : tie.Need-returns-2
+returns-2 c =
+    let at = c .before .before .before .before .before in
+    let s = c .before .before .before .before .before .before .before .before .before .before .before .before .before .before .before .before .before .before .args in
+    let v = coreFamily (coreIn (s .core .now)) in
+    let f = at .peel .result in
+    let vs = take (c .before .before .before .before .before .before .before .before .before .before .before .before .before .before .lesser .result + 1) (rowsIn (at .peel .last .1 .1 .1 .0)) in
+    let told : f .construction ≡ Stuck = search (needs, c .enum-told2 .given) in
+    let out = rowsIn (s .list .now) in
+    (family-kept f vs v (made at), sym (ap (λ (l : List ℕ). over l out) (vectors-stuck f vs v (made at) told) ∙ over-nil out))
 
 pub bordered-family-spec : {M : Type 1} → statement M
 bordered-family-spec =
@@ -96,4 +138,11 @@ bordered-family-spec =
     slice-aggregate-peel-2
     slice-aggregate-peel-3
     peel-requires
-    returns)
+    enum-told
+    add-put-front
+    slice-aggregate-put-front
+    put-front-requires
+    same-length
+    returns
+    enum-told-2
+    returns-2)

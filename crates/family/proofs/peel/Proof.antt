@@ -1,7 +1,7 @@
 -- `peel` puts a vector into the list while a member is dropped for it, by `turn-peeled`, and ends in the simplex of the rest, by `family-rest`.
 -- Assumes nothing.
 mod Turns
-use Prim.Native.Nat.{_-_, zero-le}
+use Prim.Native.Nat.{zero-le}
 use native.Mathlib.Omega.{arith}
 use borrow.Author.Needs.{needs}
 use Rattle.family.proofs.peel.Statement.{statement}
@@ -14,8 +14,8 @@ pick-requires c κs = fits (c .before .before)
 enum-told : tie.Need-enum-told Inv-loop μ-loop
 enum-told c = search needs
 
-joined-requires : tie.Need-joined-requires Inv-loop μ-loop
-joined-requires c κs =
+symplectic-simplex-requires : tie.Need-symplectic-simplex-requires Inv-loop μ-loop
+symplectic-simplex-requires c κs =
     let at = c .before .before .before .before .before .before .before .before .loop in
     let p = c .before .before .before .before .before .before .before .before .before .before .before .before .pre in
     (omega (arith, at .inv .0, p .0), fits (c .before .before .before .before .before .before .before .before), omega (arith, at .inv .0, at .inv .5, p .2))
@@ -34,9 +34,6 @@ enum-known-p c = search needs
 
 first-dot-requires : tie.Need-first-dot-requires Inv-loop μ-loop
 first-dot-requires c κs = search needs
-
-empty-requires : tie.Need-empty-requires Inv-loop μ-loop
-empty-requires c κs = search needs
 
 same-length-4 : tie.Need-same-length-4 Inv-loop μ-loop
 same-length-4 c = search needs
@@ -75,14 +72,13 @@ peel-spec =
     loop-holds
     pick-requires
     enum-told
-    joined-requires
+    symplectic-simplex-requires
     same-length
     same-length-2
     same-length-3
     returns
     enum-known-p
     first-dot-requires
-    empty-requires
     same-length-4
     same-length-5
     same-length-6

@@ -1,11 +1,12 @@
 -- `from_core` replies to questions 6 and 7, by `searched-spent`, `searched-found`, `searched-unbordered` and `searched-bordered`.
 -- Assumes nothing.
 use mathlib.Core.Path.{_≡_, sym, ap, ap₂, _∙_}
+use mathlib.Core.List.{List}
+use mathlib.Core.Option.{Option}
 use Prim.Native.Nat.{ℕ, _+_, _≤_}
 use native.Mathlib.Omega.{arith}
 use lib.ListN.{length, take, replicate}
 use Rattle.binar.specs.Rows.{width}
-use Rattle.blocks.specs.Blocks.{rowsOf}
 use Rattle.blocks.specs.Matrices.{matmul}
 use Rattle.blocks.specs.Words.{laid, rowsIn, over}
 use Rattle.blocks.proofs.Values.{unmapped}
@@ -17,10 +18,15 @@ use Rattle.questions.specs.Replies.{Reply}
 use Rattle.actions.proofs.Arrays.{qubits-le, matrix-length, qubits-capped}
 use Rattle.symplectic.proofs.Work.{room-in, part-words}
 use Rattle.residue.proofs.Core.{core-within}
-use Rattle.triangular.specs.declared.Ending.the-variants.{Found}
+use Rattle.triangular.specs.declared.Ending.the-variants.{Found, Failed}
+use Rattle.family.specs.Family.{coreFamily}
+use Rattle.family.specs.Readings.{mostVectors}
+use Rattle.bordered.specs.declared.Candidate.the-variants.{Passed}
+use Rattle.bordered.specs.Checks.{checkedList}
+use Rattle.bordered.specs.Readings.{listOf}
 use Rattle.bordered.proofs.Listed.{bordered-of}
-use Rattle.triangular.specs.Readings.{basisFound}
-use Rattle.transvection_exact.proofs.Outcomes.{same-verdict, found-size, searched-spent, searched-found, searched-unbordered, searched-bordered}
+use Rattle.triangular.specs.Readings.{coreIn, basisFound}
+use Rattle.transvection_exact.proofs.Outcomes.{same-verdict, found-size, searched-spent, searched-found, searched-unbordered, searched-bordered, bordered-size}
 use borrow.Author.Needs.{needs}
 use Rattle.transvection_exact.proofs.from_core.Statement.{statement}
 use Rattle.transvection_exact.proofs.from_core.Tie as tie
@@ -33,6 +39,12 @@ size c = let long : length (c .args .a .rows) ≡ mostRows = search (needs, unma
 
 rows-few : (c : tie.Start) → length (rowsIn (c .args .core .now)) ≤ width
 rows-few c = let few = core-within (qubits (c .args .a)) (matrix (c .args .a)) (size c) in omega (arith, ap length (c .pre .1), few, qubits-le (c .args .a))
+
+-- the bordered list of the basis and the core
+abbrev listed-in : tie.Start → Option (List ℕ)
+listed-in c =
+    let s = c .args in
+    checkedList (qubits (s .a)) (matrix (s .a)) (rowsIn (s .basis .now)) (rowsIn (s .core .now)) (coreFamily (coreIn (s .core .now)))
 
 capped-requires : tie.Need-capped-requires
 capped-requires c κs = search needs
@@ -102,6 +114,9 @@ returns-2 c =
 enum-told-3 : tie.Need-enum-told-3
 enum-told-3 c = search needs
 
+slice-aggregate-bordered-list : tie.Need-slice-aggregate-bordered-list
+slice-aggregate-bordered-list c = search needs
+
 bordered-list-requires : tie.Need-bordered-list-requires
 bordered-list-requires c κs = search needs
 
@@ -110,34 +125,64 @@ enum-told-4 c = search needs
 
 returns-3 : tie.Need-returns-3
 returns-3 c =
-    let start = c .before .before .before .before .before .before .before .before .before .before .before .before in
+    let start = c .before .before .before .before .before .before .before .before .before .before .before .before .before .before in
     let s = start .args in
     let pre = start .pre in
-    let o = c .before .before .before .before .before .before .congruence-triangularize in
-    let b = c .before .before .bordered-list in
-    let w = searched-unbordered (qubits (s .a)) (matrix (s .a)) (size start) (qubits-le (s .a)) (s .budget) (s .out .now) (s .core .now) (pre .1) (o .result) (o .ensures .0) (search (needs, c .before .before .before .enum-told3 .given)) (b .result) (b .ensures ∙ bordered-of (qubits (s .a)) (matrix (s .a)) (size start) (qubits-le (s .a)) (s .basis .now) (s .core .now) (pre .0) (pre .1)) (search (needs, c .enum-told4 .given)) in
+    let o = c .before .before .before .before .before .before .before .before .congruence-triangularize in
+    let l = c .before .before .before .bordered-list in
+    let is = bordered-of (qubits (s .a)) (matrix (s .a)) (size start) (qubits-le (s .a)) (s .basis .now) (s .core .now) (pre .0) (pre .1) in
+    let w = searched-unbordered (qubits (s .a)) (matrix (s .a)) (size start) (qubits-le (s .a)) (s .budget) (s .out .now) (s .core .now) (pre .1) (o .result) (o .ensures .0) (search (needs, c .before .before .before .before .before .enum-told3 .given)) (l .result) (listed-in start) is (l .ensures .0) (search (needs, c .enum-told4 .given)) in
     (sym (ap (λ (x : Reply). x .figures) w), sym (ap (λ (x : Reply). x .words) w))
 
 enum-told-5 : tie.Need-enum-told-5
 enum-told-5 c = search needs
 
-stored-requires : tie.Need-stored-requires
-stored-requires c κs = search needs
+slice-aggregate-start-2 : tie.Need-slice-aggregate-start-2
+slice-aggregate-start-2 c = search needs
+
+rows-in-requires-2 : tie.Need-rows-in-requires-2
+rows-in-requires-2 c κs = search needs
+
+add-start : tie.Need-add-start
+add-start c = omega (arith, c .rows-in2 .ensures, rows-few (c .before .before .before .before .before .before .before .before .before .before .before .before .before .before .before .before))
+
+start-requires-2 : tie.Need-start-requires-2
+start-requires-2 c κs = search needs
+
+array-share-prefix-bordered : tie.Need-array-share-prefix-bordered
+array-share-prefix-bordered c = search needs
+
+slice-aggregate-laid-out : tie.Need-slice-aggregate-laid-out
+slice-aggregate-laid-out c = part-words (c .before .before .rows-in2 .result + 1) (c .before .start2 .result) (c .before .before .before .before .before .before .before .bordered-list .last .1 .1 .1 .0) (c .before .start2 .ensures)
+
+laid-out-requires : tie.Need-laid-out-requires
+laid-out-requires c κs = search needs
 
 same-length-2 : tie.Need-same-length-2
 same-length-2 c = search needs
 
 returns-4 : tie.Need-returns-4
 returns-4 c =
-    let start = c .before .before .before .before .before .before .before .before .before .before .before .before .before .before .before .before .before in
+    let start = c .before .before .before .before .before .before .before .before .before .before .before .before .before .before .before .before .before .before .before .before .before .before in
     let s = start .args in
     let pre = start .pre in
-    let o = c .before .before .before .before .before .before .before .before .before .before .before .congruence-triangularize in
-    let q = qubits-is (c .before .before .before .before .before .before .before .before .before .before .before .before .before) in
-    let b = c .before .before .before .before .before .before .before .bordered-list in
-    let vs = rowsOf (b .result .list) in
-    let e = c .before .before .stored .ensures in
-    let w = searched-bordered (qubits (s .a)) (matrix (s .a)) (size start) (qubits-le (s .a)) (s .budget) (s .out .now) (s .core .now) (pre .1) (o .result) (o .ensures .0) (search (needs, c .before .before .before .before .before .before .before .before .enum-told3 .given)) (b .result) (b .ensures ∙ bordered-of (qubits (s .a)) (matrix (s .a)) (size start) (qubits-le (s .a)) (s .basis .now) (s .core .now) (pre .0) (pre .1)) (search (needs, c .before .before .before .before .before .enum-told5 .given)) in
+    let o = c .before .before .before .before .before .before .before .before .before .before .before .before .before .before .before .before .congruence-triangularize in
+    let q = qubits-is (c .before .before .before .before .before .before .before .before .before .before .before .before .before .before .before .before .before .before) in
+    let l = c .before .before .before .before .before .before .before .before .before .before .before .bordered-list in
+    let k = c .before .before .before .before .before .before .rows-in2 in
+    let to = c .before .before .before .before .before .start2 in
+    let is = bordered-of (qubits (s .a)) (matrix (s .a)) (size start) (qubits-le (s .a)) (s .basis .now) (s .core .now) (pre .0) (pre .1) in
+    let fails : o .result .ending ≡ Failed = search (needs, c .before .before .before .before .before .before .before .before .before .before .before .before .before .enum-told3 .given) in
+    let passed : l .result ≡ Passed = search (needs, c .before .before .before .before .before .before .before .before .enum-told5 .given) in
+    let count = bordered-size (qubits (s .a)) (matrix (s .a)) (size start) (qubits-le (s .a)) (s .budget) (s .out .now) (s .core .now) (pre .1) (o .result) (o .ensures .0) fails (l .result) (listed-in start) is (l .ensures .0) passed in
+    let one : k .result + 1 ≡ length (listOf (listed-in start)) = omega (arith, count, k .ensures) in
+    let zeros = rowsIn (replicate mostVectors 0) in
+    let few = rows-few start in
+    let list : rowsIn (take (to .result) (l .last .1 .1 .1 .0)) ≡ listOf (listed-in start) =
+    lent-front (k .result + 1) (to .result) (l .last .1 .1 .1 .0) (to .ensures) ∙ ap₂ take one (l .ensures .1) ∙ over-front (listOf (listed-in start)) zeros (room-in mostVectors (length (listOf (listed-in start))) (omega (arith, count, few))) in
+    let vs = rowsIn (take (to .result) (l .last .1 .1 .1 .0)) in
+    let e = c .before .before .laid-out .ensures in
+    let w = searched-bordered (qubits (s .a)) (matrix (s .a)) (size start) (qubits-le (s .a)) (s .budget) (s .out .now) (s .core .now) (pre .1) (o .result) (o .ensures .0) fails (l .result) (listed-in start) is (l .ensures .0) vs passed list in
     (e .0 ∙ sym (ap (λ (x : Reply). x .figures) w), e .1 ∙ ap (λ (m : ℕ). laid m vs (s .out .now)) q ∙ sym (ap (λ (x : Reply). x .words) w))
 
 pub from-core-spec : {M : Type 1} → statement M
@@ -159,10 +204,17 @@ from-core-spec =
     same-length
     returns-2
     enum-told-3
+    slice-aggregate-bordered-list
     bordered-list-requires
     enum-told-4
     returns-3
     enum-told-5
-    stored-requires
+    slice-aggregate-start-2
+    rows-in-requires-2
+    add-start
+    start-requires-2
+    array-share-prefix-bordered
+    slice-aggregate-laid-out
+    laid-out-requires
     same-length-2
     returns-4)

@@ -13,8 +13,8 @@ use borrow.Author.Needs.{needs}
 use Rattle.bordered.proofs.checks.is_product.Statement.{statement}
 use Rattle.bordered.proofs.checks.is_product.Tie as tie
 
-qubits-is : (c : tie.After-capped) → c .capped .result ≡ qubits (c .before .args .a)
-qubits-is c = c .capped .ensures ∙ sym (qubits-capped (c .before .args .a))
+qubits-is : (c : tie.After-capped) → c .capped .result ≡ qubits (c .before .before .args .a)
+qubits-is c = c .capped .ensures ∙ sym (qubits-capped (c .before .before .args .a))
 
 -- the words before any are written
 abbrev cleared : List ℕ
@@ -27,7 +27,7 @@ slice-aggregate-start : tie.Need-slice-aggregate-start
 slice-aggregate-start c = search needs
 
 add-start : tie.Need-add-start
-add-start c = omega (arith, qubits-le (c .before .before .args .a), qubits-is (c .before))
+add-start c = omega (arith, qubits-le (c .before .before .before .args .a), qubits-is (c .before))
 
 start-requires : tie.Need-start-requires
 start-requires c κs = search needs
@@ -46,7 +46,7 @@ is-product-in-requires c κs =
     let n = c .before .before .before in
     let to = c .before .start in
     let k = n .capped .result + n .capped .result in
-    part-rows k (to .result) cleared (to .ensures) (room-in mostRows k (omega (arith, qubits-is n, qubits-le (c .before .before .before .before .args .a)))) ∙ ap (λ (m : ℕ). m + m) (qubits-is n)
+    part-rows k (to .result) cleared (to .ensures) (room-in mostRows k (omega (arith, qubits-is n, qubits-le (c .before .before .before .before .before .args .a)))) ∙ ap (λ (m : ℕ). m + m) (qubits-is n)
 
 returns : tie.Need-returns
 returns c = search needs

@@ -1,37 +1,23 @@
 -- `unit_lower` tests the diagonal of row after row, then each entry behind it, by `all-open` and `lower-open`.
 -- Assumes nothing.
 mod Turns
-use Rattle.blocks.proofs.Values.{rows-fit, unmapped}
-use Prim.Native.Nat.{_-_}
 use mathlib.Core.Path.{refl}
-use native.Mathlib.Omega.{arith}
 use borrow.Author.Needs.{needs}
 use Rattle.bordered.proofs.checks.unit_lower.Statement.{statement}
 use Rattle.bordered.proofs.checks.unit_lower.Tie as tie
 use Rattle.bordered.proofs.checks.unit_lower.Proof.Turns.{Inv-loop2, μ-loop2, Inv-loop, μ-loop, returns, loop2-holds, returns-2, loop2-again, loop-again, returns-3}
 
-length-of-requires : tie.Need-length-of-requires Inv-loop2 μ-loop2 Inv-loop μ-loop
-length-of-requires c κs = search needs
+rows-in-requires : tie.Need-rows-in-requires Inv-loop2 μ-loop2 Inv-loop μ-loop
+rows-in-requires c κs = search needs
 
 loop-holds : tie.Need-loop-holds Inv-loop2 μ-loop2 Inv-loop μ-loop
-loop-holds c =
-    let h = rows-fit (c .before .before .before .args .f .vectors) (search (needs, unmapped)) in
-    (search needs, omega (arith, c .length-of .ensures), refl)
+loop-holds c = (search needs, refl)
 
-mul-times : tie.Need-mul-times Inv-loop2 μ-loop2 Inv-loop μ-loop
-mul-times c = search needs
-
-element-copy-out-times : tie.Need-element-copy-out-times Inv-loop2 μ-loop2 Inv-loop μ-loop
-element-copy-out-times c = search needs
+row-requires : tie.Need-row-requires Inv-loop2 μ-loop2 Inv-loop μ-loop
+row-requires c κs = search needs
 
 times-requires : tie.Need-times-requires Inv-loop2 μ-loop2 Inv-loop μ-loop
 times-requires c κs = search needs
-
-mul-gram : tie.Need-mul-gram Inv-loop2 μ-loop2 Inv-loop μ-loop
-mul-gram c = search needs
-
-element-copy-out-gram : tie.Need-element-copy-out-gram Inv-loop2 μ-loop2 Inv-loop μ-loop
-element-copy-out-gram c = search needs
 
 both-related-requires : tie.Need-both-related-requires Inv-loop2 μ-loop2 Inv-loop μ-loop
 both-related-requires c κs = search needs
@@ -42,11 +28,8 @@ gram-requires c κs = search needs
 add-j : tie.Need-add-j Inv-loop2 μ-loop2 Inv-loop μ-loop
 add-j c = search needs
 
-mul-gram-2 : tie.Need-mul-gram-2 Inv-loop2 μ-loop2 Inv-loop μ-loop
-mul-gram-2 c = search needs
-
-element-copy-out-gram-2 : tie.Need-element-copy-out-gram-2 Inv-loop2 μ-loop2 Inv-loop μ-loop
-element-copy-out-gram-2 c = search needs
+row-requires-2 : tie.Need-row-requires-2 Inv-loop2 μ-loop2 Inv-loop μ-loop
+row-requires-2 c κs = search needs
 
 both-related-requires-2 : tie.Need-both-related-requires-2 Inv-loop2 μ-loop2 Inv-loop μ-loop
 both-related-requires-2 c κs = search needs
@@ -74,20 +57,16 @@ unit-lower-spec =
     μ-loop2
     Inv-loop
     μ-loop
-    length-of-requires
+    rows-in-requires
     loop-holds
-    mul-times
-    element-copy-out-times
+    row-requires
     times-requires
-    mul-gram
-    element-copy-out-gram
     both-related-requires
     gram-requires
     returns
     add-j
     loop2-holds
-    mul-gram-2
-    element-copy-out-gram-2
+    row-requires-2
     both-related-requires-2
     gram-requires-2
     returns-2

@@ -21,12 +21,12 @@ use Rattle.symplectic.specs.Picks.{mapSome, pick}
 use Rattle.triangular.specs.Spaces.{complement}
 use Rattle.family.specs.declared.Picked.the-variants.{Nothing}
 use Rattle.family.specs.Family.{symplecticSimplex, borderedFamily}
-use Rattle.family.specs.Readings.{familyOf}
+use Rattle.family.specs.Readings.{ifMade, familyOf}
 use Rattle.family.specs.inner.Parts.{peeledBefore}
 use Rattle.family.proofs.Behind.{over-all}
 use Rattle.family.proofs.Drops.{drop-length}
 use Rattle.family.proofs.Members.{picked-vector, picked-nothing, fit-length}
-use Rattle.family.proofs.Peeling.{Left, family-begun, family-rest, turn-stuck, turn-peeled}
+use Rattle.family.proofs.Peeling.{Left, family-begun, family-rest, turn-stuck, turn-peeled, joined-made}
 use native.Mathlib.Omega.{arith}
 use borrow.Author.Needs.{needs}
 use Rattle.family.proofs.peel.Tie as tie
@@ -65,17 +65,25 @@ loop-holds c =
     )
 
 pub returns : tie.Need-returns Inv-loop μ-loop
+unfolding familyOf
 returns c =
-    let s = c .before .before .before .before .before .before .before .before .before .before .before .before .before .before .before .before .before .before .before .args in
-    let at = c .before .before .before .before .before .before .before .before .before .before .before .before .before .before .before .loop in
+    let start = c .before .before .before .before .before .before .before .before .before .before .before .before .before .before .before .before .before .before .before in
+    let s = start .args in
+    let here = c .before .before .before .before .before .before .before .before .before .before .before .before .before .before .before in
+    let at = here .loop in
     let B = take (at .d) (rowsIn (at .basis)) in
     let vs = take (at .peeled) (rowsIn (at .list)) in
     let p = c .before .before .before .before .before .before .before .before .before .before .before .before .pick in
     let is : p .result ≡ Nothing = search (needs, c .before .before .before .before .before .before .before .before .before .before .enum-told .given) in
+    let made = c .before .before .before .before .before .before .symplectic-simplex in
+    let rows = rowsIn (made .last .1 .1 .1 .0) in
+    let whole : at .peeled + at .d + 1 ≡ s .k + 1 = omega (arith, at .inv .0) in
+    let peeled = length-take-le (at .peeled) (rowsIn (at .list)) (omega (arith, at .inv .0, at .inv .5, start .pre .2)) in
     λ E fit.
     let inv = at .inv .6 E fit in
-    c .before .before .before .before .before .before .joined .ensures E (inv .0)
-    ∙ ap (λ (n : ℕ). mapSome (peeledBefore vs) (mapSome (map (λ (v : ℕ). (v, true))) (symplecticSimplex (form E) n B))) (sym (size (c .before .before .before .before .before .before .before .before .before .before .before .before .before .before .before)))
+    joined-made (made .result) (at .peeled) (take (s .k + 1) rows) vs (symplecticSimplex (form E) (at .d) B) peeled
+    (ap (λ (n : ℕ). ifMade (made .result) (take n rows)) (sym whole) ∙ made .ensures E (inv .0))
+    ∙ ap (λ (n : ℕ). mapSome (peeledBefore vs) (mapSome (map (λ (v : ℕ). (v, true))) (symplecticSimplex (form E) n B))) (sym (size here))
     ∙ family-rest (form E) (family-of E (s .k) (rowsIn (s .basis .now))) vs B (inv .1) (picked-nothing E (p .result) (pick _⊕_ (form E) B) (p .ensures E (inv .0)) is)
 
 -- the vector that is picked, and its form row
@@ -89,16 +97,16 @@ chosen c E fit =
 pub returns-2 : tie.Need-returns-2 Inv-loop μ-loop
 unfolding familyOf
 returns-2 c =
-    let s = c .before .before .before .before .before .before .before .before .before .before .before .before .before .before .args in
-    let at = c .before .before .before .before .before .before .before .before .before .before .loop in
+    let s = c .before .before .before .before .before .before .before .before .before .before .before .before .before .args in
+    let at = c .before .before .before .before .before .before .before .before .before .loop in
     let b = rowsIn (at .basis) in
-    let g = c .before .before .before .before .before .p .given in
-    let found = c .before .before .first-dot .ensures in
-    let e = c .before .if1 .taken in
-    let long = size (c .before .before .before .before .before .before .before .before .before .before) in
+    let g = c .before .before .before .before .p .given in
+    let found = c .before .first-dot .ensures in
+    let e = c .if1 .taken in
+    let long = size (c .before .before .before .before .before .before .before .before .before) in
     λ E fit.
     let inv = at .inv .6 E fit in
-    let v = chosen (c .before .before .before .before .before) E (inv .0) in
+    let v = chosen (c .before .before .before .before) E (inv .0) in
     turn-stuck E (family-of E (s .k) (rowsIn (s .basis .now))) (take (at .peeled) (rowsIn (at .list))) (take (at .d) b) (inv .1) (val (g .0 .0)) (val (g .0 .1 .0)) (v .0) (v .1)
     (λ i l. ap (dot (val (g .0 .1 .0))) (getD-take (at .d) b i 0 (omega arith)) ∙ found .2 i (omega arith) zero-le)
 
