@@ -1,12 +1,13 @@
 //! Microseconds of whole calls, minimal, greedy and fixed space, beside the Rust source where it is at hand: on the same layers,
 //! in one process, the two sides in turn. Both sides' lists and fixed spaces are compared before they are timed. The choice from
-//! two long lists, which the source does not have, is timed beside plain Rust.
+//! two long lists, which the source does not have, is timed beside plain Rust. Looks are counted with memories lent, too.
 use std::time::Instant;
 
 mod clock;
 mod families;
 mod layers;
 mod ours;
+mod remembered;
 mod shorter;
 mod source;
 
@@ -206,4 +207,5 @@ fn main() {
     let fixed = "the fixed space; source: clifford_fixed_space; stand-in: its parts that are not the source's code, the elimination among them";
     table(fixed, &all, fixed_sample);
     shorter::table();
+    remembered::table();
 }

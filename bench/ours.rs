@@ -12,6 +12,18 @@ extern "C" {
         count: *mut u64,
         looks: *mut u64,
     ) -> u64;
+    fn turnlist_minimal_remembering(
+        n: u64,
+        rows: *const u64,
+        row_count: usize,
+        budget: u64,
+        memory: *mut u64,
+        memory_len: usize,
+        out: *mut u64,
+        out_len: usize,
+        count: *mut u64,
+        looks: *mut u64,
+    ) -> u64;
     fn turnlist_greedy(n: u64, rows: *const u64, row_count: usize, out: *mut u64, out_len: usize, count: *mut u64) -> u64;
     fn turnlist_fixed_space(n: u64, rows: *const u64, row_count: usize, out: *mut u64, out_len: usize, count: *mut u64) -> u64;
     fn turnlist_rebuild(n: u64, vectors: *const u64, vector_count: usize, out: *mut u64, out_len: usize, count: *mut u64) -> u64;
@@ -30,12 +42,25 @@ extern "C" {
 
 /// Words enough for either list, for a fixed space and for an action.
 pub const ROOM: usize = 130;
+/// Words of a memory that hold one dead end.
+pub const ENTRY: usize = 65;
 
 /// The refusal, how many vectors were listed, and the looks.
 pub fn minimal(n: usize, rows: &[u64], budget: u64, out: &mut [u64; ROOM]) -> (u64, usize, u64) {
     let (mut count, mut looks) = (0, 0);
     let number = unsafe {
         turnlist_minimal(n as u64, rows.as_ptr(), rows.len(), budget, out.as_mut_ptr(), ROOM, &mut count, &mut looks)
+    };
+    (number, count as usize, looks)
+}
+
+/// The same with words lent for a memory of dead ends.
+pub fn remembering(n: usize, rows: &[u64], budget: u64, memory: &mut [u64], out: &mut [u64; ROOM]) -> (u64, usize, u64) {
+    let (mut count, mut looks) = (0, 0);
+    let (n, rows, row_count, memory, memory_len) = (n as u64, rows.as_ptr(), rows.len(), memory.as_mut_ptr(), memory.len());
+    let out = out.as_mut_ptr();
+    let number = unsafe {
+        turnlist_minimal_remembering(n, rows, row_count, budget, memory, memory_len, out, ROOM, &mut count, &mut looks)
     };
     (number, count as usize, looks)
 }

@@ -1,5 +1,6 @@
 //! Looks a second of the proved search, of the same search in plain Rust and in Rust with its memory laid out beforehand, and,
-//! where it is at hand, of the reference model, on the same inputs in one run.
+//! where it is at hand, of the reference model, on the same inputs in one run. Then what a look takes where a memory of dead ends
+//! is lent, beside what it takes without.
 use std::process::Command;
 use std::time::Instant;
 
@@ -7,13 +8,19 @@ mod plain;
 mod tuned;
 
 const ROUNDS: usize = 12;
+/// Dead ends that a memory has room for.
+const ENTRIES: usize = 4_096;
 
 extern "C" {
-    fn search_core(core: *const u64, rows: usize, budget: u64) -> u64;
+    fn search_core(core: *const u64, rows: usize, budget: u64, memory: *mut u64, memory_len: usize) -> u64;
 }
 
 fn proved(core: &[u64], budget: u64) -> u64 {
-    unsafe { search_core(core.as_ptr(), core.len(), budget) }
+    unsafe { search_core(core.as_ptr(), core.len(), budget, std::ptr::null_mut(), 0) }
+}
+
+fn remembering(core: &[u64], budget: u64, memory: &mut [u64]) -> u64 {
+    unsafe { search_core(core.as_ptr(), core.len(), budget, memory.as_mut_ptr(), memory.len()) }
 }
 
 /// Alternating but for the last diagonal entry: half of all draws come before one is accepted.
@@ -32,7 +39,7 @@ fn dead(d: usize) -> Vec<u64> {
 type Search = fn(&[u64], u64) -> u64;
 
 /// Repeats a search until so many looks are drawn; millions of them a second.
-fn rate(search: Search, core: &[u64], wanted: u64) -> f64 {
+fn rate(mut search: impl FnMut(&[u64], u64) -> u64, core: &[u64], wanted: u64) -> f64 {
     let start = Instant::now();
     let mut total = 0;
     while total < wanted {
@@ -67,6 +74,26 @@ fn model_rates(model: &str) -> Vec<(String, f64)> {
         .collect()
 }
 
+/// Nanoseconds a look where dead ends are kept, and where they are not; the two take turns.
+fn memory_table() {
+    const WANTED: u64 = 500_000;
+    let mut memory = vec![0; 65 * ENTRIES];
+    println!("nanoseconds a look on dead ends, with {ENTRIES} entries of memory and with none; looks: of one search, at most {WANTED}");
+    println!("{:<10}{:>8}{:>8}{:>14}{:>12}{:>12}", "search", "memory", "none", "memory / none", "looks", "looks, none");
+    for d in [8, 16, 32] {
+        let core = dead(d);
+        let (kept, looks) = (remembering(&core, WANTED, &mut memory), proved(&core, WANTED));
+        assert!(kept <= looks, "more looks with a memory than without");
+        let mut best = [0.0f64; 2];
+        for _ in 0..3 {
+            best[0] = best[0].max(rate(|core, budget| remembering(core, budget, &mut memory), &core, WANTED));
+            best[1] = best[1].max(rate(proved, &core, WANTED));
+        }
+        let [with, none] = best.map(|rate| 1e3 / rate);
+        println!("{:<10}{with:>8.1}{none:>8.1}{:>14.1}{kept:>12}{looks:>12}", format!("dead {d}"), with / none);
+    }
+}
+
 fn main() {
     let bin = std::env::args().nth(1).unwrap_or_default();
     let cases = [("scan", 32usize, 60_000_000u64), ("scan", 64, 60_000_000), ("dead", 8, 4_000_000), ("dead", 16, 4_000_000), ("dead", 32, 4_000_000)];
@@ -92,4 +119,6 @@ fn main() {
             theirs.map_or("-".into(), |m| format!("rate {:.2}", rust / m))
         );
     }
+    println!();
+    memory_table();
 }

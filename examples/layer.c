@@ -1,12 +1,13 @@
-/* A layer by its gates, its turn lists, the action rebuilt from each, its fixed space, the shorter list, and two refusals.
- * Run it by examples/run-c. */
+/* A layer by its gates, its turn lists, the action rebuilt from each, its fixed space, the shorter list, two refusals, and
+ * what a memory saves. Run it by examples/run-c. */
 #include "turnlist.h"
 
 #include <inttypes.h>
 #include <stdio.h>
 #include <string.h>
 
-enum { N = 3, ROWS = TURNLIST_ROWS(N), MINIMAL_WORDS = TURNLIST_MINIMAL_WORDS(N), GREEDY_WORDS = TURNLIST_GREEDY_WORDS(N) };
+enum { N = 3, ROWS = TURNLIST_ROWS(N), MINIMAL_WORDS = TURNLIST_MINIMAL_WORDS(N), GREEDY_WORDS = TURNLIST_GREEDY_WORDS(N),
+       MEMORY_WORDS = 16 * TURNLIST_ENTRY_WORDS };
 
 static const uint8_t layer[] = {
     TURNLIST_H, 0, 0, /* the last byte is not read */
@@ -29,6 +30,9 @@ static const char *const meanings[] = {
     NULL, NULL, /* 12 and 13 are refusals of a job file, which no call here takes */
     "neither list has the action for its product",
 };
+
+/* Rows of an action whose search comes upon failed subspaces again. */
+static const uint64_t harder[ROWS] = {0x16, 0x1a, 0x2b, 0x07, 0x05, 0x04};
 
 /* The vectors as letters, qubit 0 first. */
 static void print_letters(const uint64_t *vectors, uint64_t count)
@@ -62,6 +66,7 @@ int main(void)
 {
     uint64_t action[ROWS], minimal[MINIMAL_WORDS], greedy[GREEDY_WORDS], fixed[ROWS];
     uint64_t count, minimal_count, greedy_count, looks, chosen;
+    uint64_t memory[MEMORY_WORDS];
 
     if (!answered(turnlist_gates(N, layer, sizeof layer, action, ROWS, &count)))
         return 1;
@@ -95,5 +100,13 @@ int main(void)
 
     printf("minimal with one look too few: ");
     answered(turnlist_minimal(N, action, ROWS, looks - 1, minimal, MINIMAL_WORDS, &count, &looks));
+
+    if (!answered(turnlist_minimal(N, harder, ROWS, 1000000, minimal, MINIMAL_WORDS, &count, &looks)))
+        return 1;
+    printf("a harder layer: %" PRIu64 " looks,", looks);
+    if (!answered(turnlist_minimal_remembering(N, harder, ROWS, 1000000, memory, MEMORY_WORDS,
+                                               minimal, MINIMAL_WORDS, &count, &looks)))
+        return 1;
+    printf(" with a memory of 16 failed subspaces %" PRIu64 "\n", looks);
     return 0;
 }

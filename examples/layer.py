@@ -1,10 +1,11 @@
-"""A layer by its gates, its turn lists, the action rebuilt from each, its fixed space, the shorter list, and two refusals.
-Run it by examples/run-python."""
+"""A layer by its gates, its turn lists, the action rebuilt from each, its fixed space, the shorter list, two refusals, and
+what a memory saves. Run it by examples/run-python."""
 import sys
 
-from turnlist import CX, H, Refusal, Turnlist
+from turnlist import CX, ENTRY_WORDS, H, Refusal, Turnlist, words
 
 N = 3
+HARDER = [0x16, 0x1a, 0x2b, 0x07, 0x05, 0x04]  # rows of an action whose search comes upon failed subspaces again
 
 
 def letters(vectors):
@@ -44,6 +45,10 @@ def main(path):
         library.minimal(N, action, looks - 1)
     except Refusal as refusal:
         print(f"minimal with one look too few: {refusal}")
+
+    _, looks = library.minimal(N, HARDER, 1_000_000)
+    _, fewer = library.minimal_remembering(N, HARDER, 1_000_000, words([0] * (16 * ENTRY_WORDS)))
+    print(f"a harder layer: {looks} looks, with a memory of 16 failed subspaces {fewer}")
 
 
 main(sys.argv[1])

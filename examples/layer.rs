@@ -1,11 +1,14 @@
-//! A layer by its gates, its turn lists, the action rebuilt from each, its fixed space, the shorter list, and two refusals.
-//! Run it by examples/run-rust.
+//! A layer by its gates, its turn lists, the action rebuilt from each, its fixed space, the shorter list, two refusals, and
+//! what a memory saves. Run it by examples/run-rust.
 #[allow(dead_code)] // not every gate is used here
 mod turnlist;
 
 use turnlist::{Refusal, CX, H};
 
 const N: u64 = 3;
+
+/// Rows of an action whose search comes upon failed subspaces again.
+const HARDER: [u64; 6] = [0x16, 0x1a, 0x2b, 0x07, 0x05, 0x04];
 
 /// The vectors as letters, qubit 0 first.
 fn letters(vectors: &[u64]) -> String {
@@ -45,5 +48,10 @@ fn main() -> Result<(), Refusal> {
     if let Err(refusal) = turnlist::minimal(N, &action, minimal.looks - 1) {
         println!("minimal with one look too few: {refusal}");
     }
+
+    let looks = turnlist::minimal(N, &HARDER, 1_000_000)?.looks;
+    let mut memory = [0; 16 * turnlist::ENTRY_WORDS];
+    let fewer = turnlist::minimal_remembering(N, &HARDER, 1_000_000, &mut memory)?.looks;
+    println!("a harder layer: {looks} looks, with a memory of 16 failed subspaces {fewer}");
     Ok(())
 }

@@ -4,6 +4,7 @@ import ctypes
 
 H, S, ROOT_X, CX, CZ, SWAP = range(6)
 MOST_QUBITS = 32
+ENTRY_WORDS = 65  # of a memory, for one failed subspace
 MEANINGS = (
     "an answer",
     "more than 32 qubits",
@@ -55,6 +56,7 @@ class Turnlist:
         library = ctypes.CDLL(path)
         lending = [WORDS, LENGTH, WORDS]
         self._minimal = self._call(library.turnlist_minimal, [WORD, WORDS, LENGTH, WORD, *lending, WORDS])
+        self._remembering = self._call(library.turnlist_minimal_remembering, [WORD, WORDS, LENGTH, WORD, WORDS, LENGTH, *lending, WORDS])
         self._greedy = self._call(library.turnlist_greedy, [WORD, WORDS, LENGTH, *lending])
         self._fixed_space = self._call(library.turnlist_fixed_space, [WORD, WORDS, LENGTH, *lending])
         self._rebuild = self._call(library.turnlist_rebuild, [WORD, WORDS, LENGTH, *lending])
@@ -82,6 +84,14 @@ class Turnlist:
         """A list of turns whose product is the action, of which none is shorter; and the looks of its search."""
         looks = WORD()
         turns = self._written(self._minimal, 2 * MOST_QUBITS + 1, word(n), words(rows), len(rows), word(budget), told=[looks])
+        return turns, looks.value
+
+    def minimal_remembering(self, n, rows, budget, memory):
+        """The same with a memory, an array made by words(), of failed subspaces, ENTRY_WORDS words each, of which none is
+        searched twice. Wherever minimal answers the list is the same; the looks are never more."""
+        looks = WORD()
+        asked = word(n), words(rows), len(rows), word(budget), memory, len(memory)
+        turns = self._written(self._remembering, 2 * MOST_QUBITS + 1, *asked, told=[looks])
         return turns, looks.value
 
     def greedy(self, n, rows):

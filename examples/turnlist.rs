@@ -14,6 +14,9 @@ pub type Gate = [u8; 3];
 
 const MOST_QUBITS: usize = 32;
 
+/// How many words of a memory hold one failed subspace.
+pub const ENTRY_WORDS: usize = 65;
+
 /// The minimal list, and the looks of its search.
 pub struct Minimal {
     pub turns: Vec<u64>,
@@ -91,6 +94,21 @@ pub fn minimal(n: u64, rows: &[u64], budget: u64) -> Result<Minimal, Refusal> {
     // SAFETY: each pointer goes with the length of its own slice, and what is lent for writing is local.
     let reply = unsafe {
         turnlist_minimal(n, rows.as_ptr(), rows.len(), budget, out.as_mut_ptr(), out.len(), &mut count, &mut looks)
+    };
+    let turns = written(reply, &out, count)?;
+    Ok(Minimal { turns, looks })
+}
+
+/// The same with a lent memory of failed subspaces, `ENTRY_WORDS` words each, of which none is searched twice. Wherever
+/// `minimal` answers the list is the same; the looks are never more.
+pub fn minimal_remembering(n: u64, rows: &[u64], budget: u64, memory: &mut [u64]) -> Result<Minimal, Refusal> {
+    let mut out = [0; 2 * MOST_QUBITS + 1];
+    let (mut count, mut looks) = (0, 0);
+    let (held, words) = (memory.as_mut_ptr(), memory.len());
+    let (to, room) = (out.as_mut_ptr(), out.len());
+    // SAFETY: as in `minimal`; the memory is lent for writing, so that nothing else has it.
+    let reply = unsafe {
+        turnlist_minimal_remembering(n, rows.as_ptr(), rows.len(), budget, held, words, to, room, &mut count, &mut looks)
     };
     let turns = written(reply, &out, count)?;
     Ok(Minimal { turns, looks })
@@ -174,6 +192,18 @@ extern "C" {
         rows: *const u64,
         row_count: usize,
         budget: u64,
+        out: *mut u64,
+        out_len: usize,
+        count: *mut u64,
+        looks: *mut u64,
+    ) -> u64;
+    fn turnlist_minimal_remembering(
+        n: u64,
+        rows: *const u64,
+        row_count: usize,
+        budget: u64,
+        memory: *mut u64,
+        memory_len: usize,
         out: *mut u64,
         out_len: usize,
         count: *mut u64,

@@ -13,16 +13,17 @@
  *
  *   - 0: an answer. *count says how many words stand at the start of out, and the words past them are unchanged.
  *     turnlist_shorter lists nothing: *chosen says which of the lent lists is the answer.
- *   - Any other number: a refusal. Nothing is listed, and every lent word is unchanged, *count, *looks and *chosen too.
+ *   - Any other number: a refusal. Nothing is listed, and every lent word is unchanged, *count, *looks and *chosen too;
+ *     but a lent memory may change at 6 and 7.
  *
  * What the caller owes, and nothing checks:
  *
  *   - Each pointer is aligned, and valid for as many words (gates: bytes) as the length behind it says. Where
  *     that length is 0 the pointer is not followed, and may be null. count, looks and chosen are never null.
- *   - What is lent for writing (out, count, looks, chosen) overlaps nothing else that is lent, and no other thread
- *     touches it during the call. What is lent for reading is not written during the call, and may overlap.
- *   - The thread has stack to spare: 128 KiB are enough for turnlist_minimal, 16 KiB for the others. tests/stack/run
- *     measures what they take.
+ *   - What is lent for writing (out, memory, count, looks, chosen) overlaps nothing else that is lent, and no other
+ *     thread touches it during the call. What is lent for reading is not written during the call, and may overlap.
+ *   - The thread has stack to spare: 128 KiB are enough for turnlist_minimal and turnlist_minimal_remembering, 16 KiB
+ *     for the others. tests/stack/run measures what they take.
  *
  * The calls keep nothing from one call to the next, so that threads may call at the same time. */
 #ifndef TURNLIST_H_INCLUDED
@@ -42,6 +43,9 @@ extern "C" {
 #define TURNLIST_ROWS(n) (2 * (n))
 #define TURNLIST_MINIMAL_WORDS(n) (2 * (n) + 1)
 #define TURNLIST_GREEDY_WORDS(n) (4 * (n) + 2)
+
+/* How many words of a lent memory one entry takes. */
+#define TURNLIST_ENTRY_WORDS 65
 
 /* What a call returns. 12 and 13 are refusals of a job file, which no call here takes. */
 enum turnlist_reply {
@@ -78,6 +82,19 @@ enum turnlist_gate {
  * the budget, and at 7 they were drawn and are not told. */
 uint64_t turnlist_minimal(uint64_t n, const uint64_t *rows, size_t row_count, uint64_t budget,
                           uint64_t *out, size_t out_len, uint64_t *count, uint64_t *looks);
+
+/* The same with a memory of failed subspaces, so that none that it holds is searched twice.
+ *
+ * Each 65 words of the lent memory hold one: its dimension, then its reduced basis, the rest zero. A subspace is entered
+ * when it is known to fail, in order, while there is room for a whole entry; one that is held fails without a look. The
+ * memory starts empty in each call: what it held before is not read. On a refusal by 1 to 5 it is unchanged; else it holds
+ * the entries of this call, and the words beyond them are unchanged.
+ *
+ * The list is that of turnlist_minimal wherever that answers within the budget, and the looks are never more. It is spent
+ * (6) only where that is spent too. With fewer than 65 words it is turnlist_minimal. */
+uint64_t turnlist_minimal_remembering(uint64_t n, const uint64_t *rows, size_t row_count, uint64_t budget,
+                                      uint64_t *memory, size_t memory_len, uint64_t *out, size_t out_len,
+                                      uint64_t *count, uint64_t *looks);
 
 /* The greedy list of an action: *count turns, at most 4n, whose product is the action.
  *

@@ -1,5 +1,6 @@
 //! One comparison after another: what the library did beside what the model says, tallied by family and width.
 use crate::library::{answer, Call, Question, Seen, Spoil};
+use crate::memory::Memory;
 use crate::model;
 
 /// The widths of the table's columns, each up to the number given.
@@ -28,22 +29,24 @@ pub struct Checker {
 /// What a caller should see, by the model.
 pub fn expected(question: &Question) -> Seen {
     let (n, words, out) = (question.n, &question.words, question.out);
+    let mut memory = Memory::new(question.memory.len());
     let reply = match question.call {
         Call::Minimal { budget } => model::minimal(n, words, budget, out),
+        Call::Remembering { budget } => model::remembering(n, words, budget, &mut memory, out),
         Call::Greedy => model::greedy(n, words, out),
         Call::FixedSpace => model::fixed_space(n, words, out),
         Call::Rebuild => model::rebuild(n, words, out),
         Call::Shorter => return expected_choice(question),
         Call::Gates => model::gates(n, &question.bytes, out),
     };
+    let mut seen = Seen { memory: memory.laid(&question.memory), ..Seen::untouched(0, question) };
     let (list, looks) = match reply {
-        Err(number) => return Seen::untouched(number, out),
+        Err(number) => return Seen { number, ..seen },
         Ok(answer) => answer,
     };
-    let mut seen = Seen::untouched(0, out);
     seen.out[..list.len()].copy_from_slice(&list);
     seen.count = list.len() as u64;
-    if matches!(question.call, Call::Minimal { .. }) {
+    if matches!(question.call, Call::Minimal { .. } | Call::Remembering { .. }) {
         seen.looks = looks;
     }
     seen
@@ -53,8 +56,8 @@ pub fn expected(question: &Question) -> Seen {
 fn expected_choice(question: &Question) -> Seen {
     let [first, second] = &question.lists;
     match model::shorter(question.n, &question.words, first, second) {
-        Err(number) => Seen::untouched(number, question.out),
-        Ok(chosen) => Seen { chosen, ..Seen::untouched(0, question.out) },
+        Err(number) => Seen::untouched(number, question),
+        Ok(chosen) => Seen { chosen, ..Seen::untouched(0, question) },
     }
 }
 
@@ -71,8 +74,11 @@ fn differences(want: &Seen, seen: &Seen) -> String {
             text.push(format!("{name} {model:#x} by the model, {library:#x} by the library"));
         }
     }
-    for (place, (model, library)) in want.out.iter().zip(&seen.out).enumerate().filter(|(_, (a, b))| a != b) {
-        text.push(format!("output word {place} {model:#x} by the model, {library:#x} by the library"));
+    for (name, model, library) in [("output", &want.out, &seen.out), ("memory", &want.memory, &seen.memory)] {
+        let differ = model.iter().zip(library).enumerate().filter(|(_, (a, b))| a != b);
+        for (place, (model, library)) in differ.take(200) {
+            text.push(format!("{name} word {place} {model:#x} by the model, {library:#x} by the library"));
+        }
     }
     if !seen.guards {
         text.push("a guard word was touched".to_string());
@@ -91,8 +97,8 @@ fn shown(words: &[u64]) -> String {
 }
 
 impl Checker {
-    /// The count, or the choice, of the call whose number is planted is damaged; a quiet checker counts the differences and
-    /// prints none.
+    /// The count, the choice or the last memory word of the call whose number is planted is damaged; a quiet checker counts the
+    /// differences and prints none.
     pub fn new(plant: Option<u64>, quiet: bool) -> Checker {
         Checker { plant, quiet, ..Checker::default() }
     }
@@ -115,7 +121,11 @@ impl Checker {
         let mut seen = answer(question, spoil);
         self.calls += 1;
         if self.plant == Some(self.calls) {
-            *(if question.call == Call::Shorter { &mut seen.chosen } else { &mut seen.count }) ^= 1;
+            *match (question.call, seen.memory.last_mut()) {
+                (_, Some(word)) => word,
+                (Call::Shorter, _) => &mut seen.chosen,
+                _ => &mut seen.count,
+            } ^= 1;
         }
         let band = BANDS.iter().position(|(last, _)| question.n <= *last).unwrap_or(BANDS.len() - 1);
         self.tally(family).calls[band] += 1;
@@ -136,10 +146,10 @@ impl Checker {
     fn report(&mut self, question: &Question, text: &str) {
         self.differ += 1;
         if self.differ <= 3 && !self.quiet {
-            let Question { call, n, words, bytes, lists, out } = question;
+            let Question { call, n, words, bytes, lists, out, memory } = question;
             let [words, first, second] = [words, &lists[0], &lists[1]].map(|words| shown(words));
             print!("differs: {call:?}, n = {n}, {out} output words, words {words}, bytes {bytes:x?}");
-            println!(", lists {first} and {second}\n  {text}\n");
+            println!(", lists {first} and {second}, {} memory words\n  {text}\n", memory.len());
         }
     }
 

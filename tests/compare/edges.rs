@@ -9,13 +9,14 @@ use crate::words::{identity, product};
 const BUDGET: u64 = 2_000;
 
 /// The calls that take an action and list words.
-fn action_calls() -> [Call; 3] {
-    [Call::Minimal { budget: BUDGET }, Call::Greedy, Call::FixedSpace]
+fn action_calls() -> [Call; 4] {
+    [Call::Minimal { budget: BUDGET }, Call::Remembering { budget: BUDGET }, Call::Greedy, Call::FixedSpace]
 }
 
 /// Those, and a rebuild of the rows.
-fn word_calls() -> [Call; 4] {
-    [Call::Minimal { budget: BUDGET }, Call::Greedy, Call::FixedSpace, Call::Rebuild]
+fn word_calls() -> [Call; 5] {
+    let [minimal, remembering, greedy, fixed_space] = action_calls();
+    [minimal, remembering, greedy, fixed_space, Call::Rebuild]
 }
 
 /// Up to this many turns, none of them zero.
@@ -176,7 +177,7 @@ fn damage(random: &mut Random, rows: &mut [u64]) {
 pub fn several(check: &mut Checker, layers: &mut Layers, samples: usize) {
     for _ in 0..samples {
         let n = 1 + layers.random.below(32);
-        let (question, planted) = match word_calls().get(layers.random.below(5)) {
+        let (question, planted) = match word_calls().get(layers.random.below(6)) {
             None => several_lists(layers, n),
             Some(Call::Rebuild) => several_rebuild(layers, n),
             Some(call) => several_rows(layers, n, *call),
@@ -187,7 +188,8 @@ pub fn several(check: &mut Checker, layers: &mut Layers, samples: usize) {
     }
 }
 
-fn several_rows(layers: &mut Layers, n: usize, call: Call) -> (Question, Vec<u64>) {
+/// A call on rows, and the refusals that are planted.
+pub fn several_rows(layers: &mut Layers, n: usize, call: Call) -> (Question, Vec<u64>) {
     let mut rows = layers.action(Family::FewTurns, n);
     let random = &mut layers.random;
     let wanted = random.word();

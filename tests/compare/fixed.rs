@@ -44,7 +44,7 @@ pub fn reduced(words: &[u64]) -> Vec<u64> {
     kept
 }
 
-fn is_reduced(words: &[u64]) -> bool {
+pub fn is_reduced(words: &[u64]) -> bool {
     let alone = |word: &u64| words.iter().filter(|other| *other & lowest(*word) != 0).count() == 1;
     words.iter().all(alone) && words.windows(2).all(|pair| lowest(pair[0]) < lowest(pair[1]))
 }

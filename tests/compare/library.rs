@@ -1,4 +1,4 @@
-//! The six functions of the library behind one safe call. Every lent buffer stands between guard words of a known pattern.
+//! The seven functions of the library behind one safe call. Every lent buffer stands between guard words of a known pattern.
 use std::ops::Range;
 
 extern "C" {
@@ -7,6 +7,18 @@ extern "C" {
         rows: *const u64,
         row_count: usize,
         budget: u64,
+        out: *mut u64,
+        out_len: usize,
+        count: *mut u64,
+        looks: *mut u64,
+    ) -> u64;
+    fn turnlist_minimal_remembering(
+        n: u64,
+        rows: *const u64,
+        row_count: usize,
+        budget: u64,
+        memory: *mut u64,
+        memory_len: usize,
         out: *mut u64,
         out_len: usize,
         count: *mut u64,
@@ -59,6 +71,7 @@ extern "C" {
 #[derive(Clone, Copy, Debug, PartialEq)]
 pub enum Call {
     Minimal { budget: u64 },
+    Remembering { budget: u64 },
     Greedy,
     FixedSpace,
     Rebuild,
@@ -67,7 +80,7 @@ pub enum Call {
 }
 
 /// One call with its input: words are rows or vectors, bytes are gates, lists are the two to choose from, out is the length
-/// of the output lent.
+/// of the output lent, memory is what is lent for dead ends.
 #[derive(Clone, Debug)]
 pub struct Question {
     pub call: Call,
@@ -76,11 +89,18 @@ pub struct Question {
     pub bytes: Vec<u8>,
     pub lists: [Vec<u64>; 2],
     pub out: usize,
+    pub memory: Vec<u64>,
 }
 
 impl Question {
+    /// A call that takes a memory is lent a short one.
     pub fn of_words(call: Call, n: u64, words: &[u64], out: usize) -> Question {
-        Question { call, n, words: words.to_vec(), bytes: Vec::new(), lists: [Vec::new(), Vec::new()], out }
+        let memory = pattern(if matches!(call, Call::Remembering { .. }) { SHORT } else { 0 });
+        Question { call, n, words: words.to_vec(), bytes: Vec::new(), lists: [Vec::new(), Vec::new()], out, memory }
+    }
+
+    pub fn with_memory(self, memory: Vec<u64>) -> Question {
+        Question { memory, ..self }
     }
 
     pub fn of_lists(n: u64, rows: &[u64], first: &[u64], second: &[u64]) -> Question {
@@ -97,6 +117,7 @@ impl Question {
 pub struct Seen {
     pub number: u64,
     pub out: Vec<u64>,
+    pub memory: Vec<u64>,
     pub count: u64,
     pub looks: u64,
     pub chosen: u64,
@@ -106,8 +127,9 @@ pub struct Seen {
 
 impl Seen {
     /// The lent words before any call.
-    pub fn untouched(number: u64, out: usize) -> Seen {
-        Seen { number, out: pattern(out), count: COUNT, looks: LOOKS, chosen: CHOSEN, guards: true, input: true }
+    pub fn untouched(number: u64, question: &Question) -> Seen {
+        let (out, memory) = (pattern(question.out), question.memory.clone());
+        Seen { number, out, memory, count: COUNT, looks: LOOKS, chosen: CHOSEN, guards: true, input: true }
     }
 
     /// The words listed; none on a refusal.
@@ -123,9 +145,11 @@ const GUARDS: usize = 8;
 const COUNT: u64 = 0xC0C0_5EED_0000_C0C0;
 const LOOKS: u64 = 0x1001_5EED_0000_1001;
 const CHOSEN: u64 = 0xC405_5EED_0000_C405;
+/// Words of a short memory: three entries and five words.
+const SHORT: usize = 200;
 
 /// Words that no call writes by chance, each of them different.
-fn pattern(length: usize) -> Vec<u64> {
+pub fn pattern(length: usize) -> Vec<u64> {
     (1..=length as u64).map(|i| i.wrapping_mul(0xD1B5_4A32_D192_ED03) | 1 << 63).collect()
 }
 
@@ -161,6 +185,7 @@ pub struct Lent {
     pub bytes: Fenced<u8>,
     pub lists: [Fenced<u64>; 2],
     pub out: Fenced<u64>,
+    pub memory: Fenced<u64>,
     pub count: Fenced<u64>,
     pub looks: Fenced<u64>,
     pub chosen: Fenced<u64>,
@@ -174,9 +199,18 @@ impl Lent {
             bytes: Fenced::new(&question.bytes, (1..=8 * GUARDS as u8).map(|i| i ^ 0xA5).collect()),
             lists: question.lists.each_ref().map(|list| words(list)),
             out: words(&pattern(question.out)),
+            memory: words(&question.memory),
             count: words(&[COUNT]),
             looks: words(&[LOOKS]),
             chosen: words(&[CHOSEN]),
+        }
+    }
+
+    /// The memory and its length; an empty one is at null.
+    fn memory_part(&mut self) -> (*mut u64, usize) {
+        match self.memory.content().len() {
+            0 => (std::ptr::null_mut(), 0),
+            length => (self.memory.pointer(), length),
         }
     }
 
@@ -192,6 +226,21 @@ impl Lent {
                 Call::Minimal { budget } => {
                     turnlist_minimal(n, words, word_count, budget, out, question.out, count, looks)
                 }
+                Call::Remembering { budget } => {
+                    let (memory, length) = self.memory_part();
+                    turnlist_minimal_remembering(
+                        n,
+                        words,
+                        word_count,
+                        budget,
+                        memory,
+                        length,
+                        out,
+                        question.out,
+                        count,
+                        looks,
+                    )
+                }
                 Call::Greedy => turnlist_greedy(n, words, word_count, out, question.out, count),
                 Call::FixedSpace => turnlist_fixed_space(n, words, word_count, out, question.out, count),
                 Call::Rebuild => turnlist_rebuild(n, words, word_count, out, question.out, count),
@@ -206,7 +255,7 @@ impl Lent {
 
     fn guarded(&self) -> bool {
         let [first, second] = &self.lists;
-        let words = [&self.words, first, second, &self.out, &self.count, &self.looks, &self.chosen];
+        let words = [&self.words, first, second, &self.out, &self.memory, &self.count, &self.looks, &self.chosen];
         words.iter().all(|buffer| buffer.guarded()) && self.bytes.guarded()
     }
 
@@ -232,6 +281,7 @@ pub fn answer(question: &Question, spoil: Option<Spoil>) -> Seen {
         guards: lent.guarded(),
         input: lent.kept(question),
         out: lent.out.content().to_vec(),
+        memory: lent.memory.content().to_vec(),
         count: lent.count.content()[0],
         looks: lent.looks.content()[0],
         chosen: lent.chosen.content()[0],

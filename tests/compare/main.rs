@@ -1,23 +1,28 @@
-//! The library's six calls beside an independent model, and beside the Rust source where its program is named.
-//! Arguments: the source's program or `-`; then, if wanted, `three` (every action on 3 qubits too), or `plant` and the number of
-//! a call whose count, or choice, is to be damaged.
+//! The library's seven calls beside an independent model, and beside the Rust source where its program is named.
+//! Arguments: the source's program or `-`; the reference answers with a memory or `-`; then, if wanted, `three` (every action on
+//! 3 qubits too), or `plant` and the number of a call whose count, choice or last memory word is to be damaged.
 mod actions;
 mod check;
 mod edges;
 mod fixed;
 mod layers;
 mod library;
+mod memory;
 mod minimal;
 mod model;
+mod remembering;
 mod selftest;
+mod selftest_memory;
 mod shorter;
 mod source;
+mod vectors;
 mod words;
 
 use actions::Sample;
 use check::Checker;
 use layers::{all_actions, Family, Layers, FAMILIES};
 use library::{Call, Question};
+use remembering::Summary;
 use source::Listed;
 
 /// The budget of the sampled searches.
@@ -103,6 +108,30 @@ fn all_edges(check: &mut Checker, layers: &mut Layers, samples: usize) {
     edges::parts(check, &mut layers.random);
 }
 
+/// The minimal list with a memory, in as many random layers as are asked for.
+fn with_memory(check: &mut Checker, layers: &mut Layers, most: usize, samples: usize) -> Summary {
+    let mut summary = Summary::default();
+    remembering::every_action(check, &mut summary, most);
+    remembering::sampled(check, &mut summary, layers, samples);
+    remembering::refused(check, &mut summary, layers, samples / 2);
+    summary
+}
+
+/// The reference answers in a file; ends the program where they cannot be read.
+fn against_vectors(check: &mut Checker, file: &str) -> String {
+    if file == "-" {
+        return "the reference answers with a memory are not at hand: not compared".to_string();
+    }
+    let text = std::fs::read_to_string(file).unwrap_or_default();
+    match vectors::compare(check, &text) {
+        Some(lines) if lines > 0 => format!("{lines} reference answers with a memory compared"),
+        _ => {
+            println!("{file}: not reference answers with a memory");
+            std::process::exit(2);
+        }
+    }
+}
+
 /// How many actions differ from the source's, 0 where it is not at hand.
 fn against_source(program: &str, listed: &[Listed]) -> u64 {
     if program == "-" {
@@ -125,6 +154,9 @@ fn test_self() {
         selftest::choices(),
         selftest::families(),
         selftest::source_lines(),
+        selftest_memory::memories(),
+        selftest_memory::entries(),
+        selftest_memory::reference_lines(),
     ];
     match facts.into_iter().collect::<Result<(), String>>().and_then(|()| selftest::planted()) {
         Ok(seen) => println!("{seen} planted damages, all of them reported\n"),
@@ -138,20 +170,26 @@ fn test_self() {
 fn main() {
     let arguments: Vec<String> = std::env::args().skip(1).collect();
     let after = |word: &str| arguments.iter().position(|argument| argument == word).map(|at| at + 1);
+    let named = |place: usize| arguments.get(place).map_or("-", String::as_str);
     test_self();
     let plant = after("plant").and_then(|at| arguments.get(at)?.parse().ok());
     let mut check = Checker::new(plant, false);
     let mut layers = Layers::new(2102);
     let mut listed = Vec::new();
-    every_action(&mut check, if after("three").is_some() { 3 } else { 2 }, &mut listed);
+    let most = if after("three").is_some() { 3 } else { 2 };
+    every_action(&mut check, most, &mut listed);
     every_matrix(&mut check);
     shorter::every_pair(&mut check);
     sampled(&mut check, &mut layers, &mut listed);
     deep(&mut check, &mut layers, &mut listed);
     circuits(&mut check, &mut layers, &mut listed);
     all_edges(&mut check, &mut layers, 20_000);
+    let summary = with_memory(&mut check, &mut layers, most, 5_000);
+    let of_vectors = against_vectors(&mut check, named(1));
     check.print_table();
-    let differ = check.differ + against_source(arguments.first().map_or("-", String::as_str), &listed);
+    summary.print();
+    println!("{of_vectors}");
+    let differ = check.differ + against_source(named(0), &listed);
     println!("{} calls compared, {differ} differ", check.calls);
     std::process::exit(i32::from(differ != 0));
 }

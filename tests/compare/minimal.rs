@@ -1,4 +1,5 @@
-//! The minimal list of the model: reduction, core, search with a budget, and the bordered list.
+//! The minimal list of the model: reduction, core, search with a budget and a memory, and the bordered list.
+use crate::memory::Memory;
 use crate::words::{dot, identity, product, rank, times};
 
 /// I + F with the upper and lower n rows exchanged.
@@ -67,6 +68,7 @@ struct Search<'a> {
     core: &'a [u64],
     budget: u64,
     looks: u64,
+    memory: &'a mut Memory,
 }
 
 impl Search<'_> {
@@ -75,6 +77,18 @@ impl Search<'_> {
         if basis.is_empty() {
             return Ok(Some(Vec::new()));
         }
+        if self.memory.holds(basis) {
+            return Ok(None);
+        }
+        let found = self.draws(basis)?;
+        if found.is_none() {
+            self.memory.enter(basis);
+        }
+        Ok(found)
+    }
+
+    /// The same of a space that has members and is not held.
+    fn draws(&mut self, basis: &[u64]) -> Result<Option<Vec<u64>>, Spent> {
         if alternating(self.core, basis) {
             return Ok(None);
         }
@@ -166,11 +180,11 @@ fn bordered(n: usize, action: &[u64], basis: &[u64], core: &[u64]) -> Option<Vec
     (fits && product(n, &list) == action).then_some(list)
 }
 
-/// The list and the looks, or the refusal, 6 or 7.
-pub fn minimal_list(n: usize, action: &[u64], budget: u64) -> Result<(Vec<u64>, u64), u64> {
+/// The list and the looks, or the refusal, 6 or 7; what failed is in the memory, which is empty before.
+pub fn minimal_list(n: usize, action: &[u64], budget: u64, memory: &mut Memory) -> Result<(Vec<u64>, u64), u64> {
     let (basis, core) = core_of(n, action);
     let units: Vec<u64> = (0..core.len()).map(|k| 1 << k).collect();
-    let mut search = Search { core: &core, budget, looks: 0 };
+    let mut search = Search { core: &core, budget, looks: 0, memory };
     let list = match search.space(&units) {
         Err(Spent) => return Err(6),
         Ok(Some(picks)) => picks.iter().map(|&p| times(p, &basis)).collect(),

@@ -1,6 +1,7 @@
-//! The six calls again, plainly, from the scope paper (the fixed space from request 3, the shorter list from request 4): the
-//! questions in their order, then the answer.
+//! The seven calls again, plainly, from the scope paper (the fixed space from request 3, the shorter list from request 4, the
+//! memory from request 6): the questions in their order, then the answer.
 use crate::fixed;
+use crate::memory::Memory;
 use crate::minimal::minimal_list;
 use crate::words::{mask, pairing, product, symplectic};
 
@@ -31,9 +32,14 @@ fn action_questions(n: u64, rows: &[u64]) -> Result<usize, u64> {
 }
 
 pub fn minimal(n: u64, rows: &[u64], budget: u64, out: usize) -> Reply {
+    remembering(n, rows, budget, &mut Memory::new(0), out)
+}
+
+/// The same with a memory, empty before; refusals 1 to 5 leave it so.
+pub fn remembering(n: u64, rows: &[u64], budget: u64, memory: &mut Memory, out: usize) -> Reply {
     let n = action_questions(n, rows)?;
     ask(out > 2 * n, 5)?;
-    minimal_list(n, rows, budget)
+    minimal_list(n, rows, budget, memory)
 }
 
 pub fn greedy(n: u64, rows: &[u64], out: usize) -> Reply {

@@ -3,7 +3,7 @@
 use crate::check::Checker;
 use crate::fixed::{self, reduced};
 use crate::layers::{hyperbolic, Family, Layers, FAMILIES};
-use crate::library::{Call, Lent, Question, Spoil};
+use crate::library::{pattern, Call, Lent, Question, Spoil};
 use crate::model::{self, fixed_space, gates, greedy, minimal};
 use crate::shorter;
 use crate::source::{agrees, Listed};
@@ -17,6 +17,8 @@ fn damages() -> Vec<(&'static str, Damage)> {
         ("number", Box::new(|_, number| *number ^= 1)),
         ("first output word", Box::new(|lent, _| lent.out.all[8] ^= 1)),
         ("last output word", Box::new(|lent, _| *lent.out.all.iter_mut().nth_back(8).unwrap() ^= 1 << 40)),
+        ("first memory word", Box::new(|lent, _| lent.memory.all[8] ^= 1)),
+        ("last memory word", Box::new(|lent, _| *lent.memory.all.iter_mut().nth_back(8).unwrap() ^= 1 << 40)),
         ("count", Box::new(|lent, _| lent.count.content()[0] += 1)),
         ("looks", Box::new(|lent, _| lent.looks.content()[0] -= 1)),
         ("choice", Box::new(|lent, _| lent.chosen.content()[0] ^= 3)),
@@ -26,6 +28,8 @@ fn damages() -> Vec<(&'static str, Damage)> {
         ("second list", Box::new(|lent, _| *lent.lists[1].all.iter_mut().nth_back(8).unwrap() ^= 1)),
         ("word before the output", Box::new(|lent, _| lent.out.all[7] = 0)),
         ("word after the output", Box::new(|lent, _| *lent.out.all.last_mut().unwrap() ^= 1)),
+        ("word before the memory", Box::new(|lent, _| lent.memory.all[7] ^= 1)),
+        ("word after the memory", Box::new(|lent, _| *lent.memory.all.iter_mut().nth_back(7).unwrap() = 0)),
         ("word before the input", Box::new(|lent, _| lent.words.all[0] ^= 1)),
         ("byte after the gates", Box::new(|lent, _| *lent.bytes.all.last_mut().unwrap() ^= 1)),
         ("word after the count", Box::new(|lent, _| lent.count.all[9] = 0)),
@@ -39,18 +43,26 @@ fn damages() -> Vec<(&'static str, Damage)> {
     ]
 }
 
-/// Answers and refusals of all six calls.
+/// Answers and refusals of all seven calls.
 fn questions() -> Vec<Question> {
     let rows = [2, 1, 8, 4, 0x20, 0x10].map(|k: u64| k ^ 1);
     let swap = [2, 1, 8, 4];
     let hadamards = [4, 8, 1, 2];
     let minimal = |rows: &[u64], budget, out| Question::of_words(Call::Minimal { budget }, 2, rows, out);
+    let remembering = |rows: &[u64], budget, out, words| {
+        Question::of_words(Call::Remembering { budget }, 2, rows, out).with_memory(pattern(words))
+    };
     vec![
         minimal(&hadamards, 2, 6),
         minimal(&hadamards, 1, 6),
         minimal(&swap, 0, 5),
         minimal(&rows, 9, 5),
         minimal(&swap, 9, 4),
+        remembering(&hadamards, 1, 5, 64),
+        remembering(&swap, 0, 5, 70),
+        remembering(&swap, 0, 6, 200),
+        remembering(&swap, 9, 4, 65),
+        remembering(&rows, 9, 5, 130),
         Question::of_words(Call::Greedy, 2, &swap, 10),
         Question::of_words(Call::Greedy, 2, &hadamards, 9),
         Question::of_words(Call::FixedSpace, 2, &swap, 6),

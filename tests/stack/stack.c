@@ -8,7 +8,7 @@
 #include <string.h>
 #include "turnlist.h"
 
-enum { QUBITS = TURNLIST_MOST_QUBITS, ROOM = 1 << 20, BYTES = 3 * 8 * QUBITS, PATTERN = 0xa5 };
+enum { QUBITS = TURNLIST_MOST_QUBITS, ROOM = 1 << 20, BYTES = 3 * 8 * QUBITS, MEMORY = 6500, PATTERN = 0xa5, CALLS = 7 };
 
 static unsigned char *stack;
 static uint64_t state = 1;
@@ -23,6 +23,7 @@ struct work {
     uint64_t rows[TURNLIST_ROWS(QUBITS)];
     uint64_t list[TURNLIST_GREEDY_WORDS(QUBITS)], minimal[TURNLIST_MINIMAL_WORDS(QUBITS)];
     uint64_t count, minimal_count, looks, chosen;
+    uint64_t memory[MEMORY];
     uint8_t gates[BYTES];
 };
 
@@ -47,6 +48,10 @@ static void *run(void *lent) {
         break;
     case 6:
         turnlist_shorter(QUBITS, w->rows, rows, w->list, w->count, w->minimal, w->minimal_count, &w->chosen);
+        break;
+    case 7:
+        turnlist_minimal_remembering(QUBITS, w->rows, rows, 100000, w->memory, MEMORY, w->minimal,
+                                     TURNLIST_MINIMAL_WORDS(QUBITS), &w->minimal_count, &w->looks);
         break;
     }
     return NULL;
@@ -83,21 +88,21 @@ int main(void) {
     static struct work w;
     static const char *const names[] = {
         "", "turnlist_minimal", "turnlist_greedy", "turnlist_rebuild", "turnlist_gates", "turnlist_fixed_space",
-        "turnlist_shorter",
+        "turnlist_shorter", "turnlist_minimal_remembering",
     };
-    size_t most[7] = {0}, bare;
+    size_t most[CALLS + 1] = {0}, bare;
     stack = aligned_alloc(4096, ROOM);
     if (stack == NULL) return 1;
     bare = used(&w, 0);
     for (int i = 0; i < 200; i++) {
         layer(&w, i % 6, i % 6 == 0 ? QUBITS : 8 * QUBITS);
-        int order[] = {4, 1, 5, 2, 6, 3}; /* the greedy list is held against the minimal one, then rebuilt */
-        for (int k = 0; k < 6; k++) {
+        int order[CALLS] = {4, 1, 7, 5, 2, 6, 3}; /* the greedy list is held against the minimal one, then rebuilt */
+        for (int k = 0; k < CALLS; k++) {
             size_t bytes = used(&w, order[k]) - bare;
             if (most[order[k]] < bytes) most[order[k]] = bytes;
         }
     }
-    for (int k = 1; k < 7; k++) printf("%s %zu\n", names[k], most[k]);
+    for (int k = 1; k <= CALLS; k++) printf("%s %zu\n", names[k], most[k]);
     free(stack);
     return 0;
 }

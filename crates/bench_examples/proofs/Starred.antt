@@ -1,11 +1,11 @@
--- The one computed theorem: every starred example of document 01, and those of the fixed space, of the shorter list and of the commutation chart, as the definitions answer them.
+-- The one computed theorem: every starred example of document 01, and those of the fixed space, of the shorter list, of the commutation chart and of a lent memory, as the definitions answer them.
 -- Assumes nothing.
 use mathlib.Core.Path.{_≡_, refl}
 use mathlib.Core.List.{map, zip, zipWith, flatten}
-use Rattle.bench_examples.specs.Table.{Example, answer, table}
+use Rattle.bench_examples.specs.Table.{Example, answer, table, memories}
 use Rattle.binar.specs.Bits.{odd, bit, _⊕_, weight, dot}
 use Rattle.blocks.specs.Matrices.{times, units, dots}
-use Rattle.blocks.specs.Words.{rowsOfWords, wordOf, wordsOfRows, laid}
+use Rattle.blocks.specs.Words.{rowsOfWords, wordOf, wordsOfRows, laid, over}
 use Rattle.symplectic.specs.Picks.{firstOne, unevenWith, firstUneven, pick}
 use Rattle.symplectic.specs.Matches.{fitAll, matches}
 use Rattle.questions.specs.Replies.{sizeQuestion, countQuestion, actionQuestions, listQuestions}
@@ -15,11 +15,13 @@ use Rattle.residue.specs.Residue.{residue, reduction, basis, transform, timesTr
 use Rattle.shorter.specs.Shorter.{shorterOf, shorterReply, partOf}
 use Rattle.fixed_space.specs.FixedSpace.{kernel, reducedBasis, fixedSpace, fixedReply}
 use Rattle.triangular.specs.Search.{draws, search, budgeted}
+use Rattle.triangular.specs.Memory.{reducedBasis as entryBasis, isSpace, holds, enter, drawsWith, searchWith, knownWithin}
 use Rattle.triangular.specs.Spaces.{complement, symmetricWith, isAlternating}
 use Rattle.bordered.specs.Checks.{unitLower, validate, verifiesBordered, checkedList, borderedList}
 use Rattle.family.specs.Family.{splitAt, withPartner, fromFirst, symplecticSimplex, peeled, borderedFamily}
 use Rattle.transvection.specs.Greedy.{besideBasis, firstNonzero, nextTransvection, recorded, greedyList, greedyReply}
-use Rattle.transvection_exact.specs.Minimal.{coreSearch, minimalReply}
+use Rattle.transvection_exact.specs.Minimal.{coreSearch, minimalReply, coreSearchWith, rememberingReply, memoryLeft}
+use Rattle.memory.specs.Entries.{entryWords, memoryWords, roomIn}
 use Rattle.gates.specs.Sequences.{readsTwo, gateQuestions, sequenceQuestions, sequenceTurns, gatesReply}
 use Rattle.gates.specs.Sheet.{sheet, gate, turnVector}
 use Rattle.job.specs.Files.{littleEndian, part, number, qubitCount, entryCount, entry, partSize, entryPasses, entriesPass, fileQuestions}
@@ -30,3 +32,7 @@ use Rattle.printout.specs.Printout.{wordsOfBytes, entryAction, entryLine, entry
 pub starred : map (λ (e : Example). answer (e .call)) table ≡ map (λ (e : Example). e .expected) table
 unfolding table answer zip zipWith flatten odd bit _⊕_ weight dot times units dots rowsOfWords wordOf wordsOfRows laid firstOne unevenWith firstUneven pick fitAll sizeQuestion countQuestion actionQuestions listQuestions xBits zBits pairing turn followed product pairAlike symplectic identityPlus columns rowReduceWithTransform rank residue reduction basis transform timesTransposed core form kernel reducedBasis fixedSpace fixedReply shorterOf shorterReply partOf draws search budgeted complement symmetricWith isAlternating unitLower validate matches verifiesBordered checkedList borderedList splitAt withPartner fromFirst symplecticSimplex peeled borderedFamily besideBasis firstNonzero nextTransvection recorded greedyList greedyReply coreSearch minimalReply readsTwo gateQuestions sequenceQuestions sequenceTurns gatesReply sheet gate turnVector littleEndian part number qubitCount entryCount entry partSize entryPasses entriesPass fileQuestions letter vector lettersFrom letters spelling decimalIn decimal touchedFrom touched load spelled line fileLine wordsOfBytes entryAction entryLine entryLines fileLines printout
 starred = refl
+
+pub remembered : map (λ (e : Example). answer (e .call)) memories ≡ map (λ (e : Example). e .expected) memories
+unfolding memories answer zip zipWith flatten odd bit _⊕_ weight dot times units dots rowsOfWords wordOf wordsOfRows laid firstOne unevenWith firstUneven pick fitAll sizeQuestion countQuestion actionQuestions listQuestions xBits zBits pairing turn followed product pairAlike symplectic identityPlus columns rowReduceWithTransform rank residue reduction basis transform timesTransposed core form kernel reducedBasis fixedSpace fixedReply shorterOf shorterReply partOf draws search budgeted complement symmetricWith isAlternating unitLower validate matches verifiesBordered checkedList borderedList splitAt withPartner fromFirst symplecticSimplex peeled borderedFamily besideBasis firstNonzero nextTransvection recorded greedyList greedyReply coreSearch minimalReply coreSearchWith rememberingReply memoryLeft entryBasis isSpace holds enter drawsWith searchWith knownWithin entryWords memoryWords roomIn over readsTwo gateQuestions sequenceQuestions sequenceTurns gatesReply sheet gate turnVector littleEndian part number qubitCount entryCount entry partSize entryPasses entriesPass fileQuestions letter vector lettersFrom letters spelling decimalIn decimal touchedFrom touched load spelled line fileLine wordsOfBytes entryAction entryLine entryLines fileLines printout
+remembered = refl

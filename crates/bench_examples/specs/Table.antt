@@ -1,12 +1,12 @@
--- The starred bench examples of document 01, and examples of the fixed space, of the shorter list and of the commutation chart (document 02,
--- items 3 to 5), as one table of calls and expected answers.
+-- The starred bench examples of document 01, and examples of the fixed space, of the shorter list, of the commutation chart and of a lent
+-- memory (document 02, items 3 to 6), as one table of calls and expected answers.
 -- Expected values are literals.
--- In each call the lent output words hold 9 at entry, so that the words left unchanged can be seen. The actions of H and CX are made
+-- In each call the lent output words and memory hold 9 at entry, so that the words left unchanged can be seen. The actions of H and CX are made
 -- from the gate sheet.
 -- Assumes nothing.
-use mathlib.Core.List.{List, [], _∷_, map}
-use Prim.Native.Nat.{ℕ, _+_}
-use lib.ListN.{replicate}
+use mathlib.Core.List.{List, [], _∷_, _++_, map}
+use Prim.Native.Nat.{ℕ, _+_, _-_}
+use lib.ListN.{length, replicate}
 use Rattle.binar.specs.Bits.{digit}
 use Rattle.questions.specs.Replies.{Reply}
 use Rattle.gates.specs.Sequences.{gatesReply}
@@ -14,7 +14,7 @@ use Rattle.shorter.specs.declared.Chosen.{Chosen}
 use Rattle.shorter.specs.Shorter.{shorterReply, partOf}
 use Rattle.fixed_space.specs.FixedSpace.{fixedReply}
 use Rattle.transvection.specs.Greedy.{greedyReply}
-use Rattle.transvection_exact.specs.Minimal.{minimalReply}
+use Rattle.transvection_exact.specs.Minimal.{minimalReply, rememberingReply, memoryLeft}
 use Rattle.letters.specs.declared.Letter.{Letter}
 use Rattle.letters.specs.declared.Letter.the-variants.{I, X, Y, Z}
 use Rattle.letters.specs.Letters.{alphabet, chart}
@@ -24,6 +24,8 @@ use Rattle.printout.specs.Printout.{printout}
 pub data Call : Type 0 where
   -- n, rows, budget, how many output words are lent
   minimal : ℕ → List ℕ → ℕ → ℕ → Call
+  -- n, rows, budget, how many words of memory and output words are lent
+  remembering : ℕ → List ℕ → ℕ → ℕ → ℕ → Call
   -- n, rows, how many output words are lent
   greedy : ℕ → List ℕ → ℕ → Call
   -- n, rows, how many output words are lent
@@ -41,6 +43,8 @@ pub data Call : Type 0 where
 pub data Answer : Type 0 where
   -- number, count, looks, and the output words as the call leaves them
   replies : ℕ → ℕ → ℕ → List ℕ → Answer
+  -- the same, and the memory as the call leaves it
+  recalls : ℕ → ℕ → ℕ → List ℕ → List ℕ → Answer
   -- number, which list, and the part that comes back
   picks : ℕ → ℕ → List ℕ → Answer
   -- the bytes printed
@@ -51,11 +55,19 @@ pub data Answer : Type 0 where
 abbrev pub replied : Reply → Answer
 replied r = replies (r .figures .number) (r .figures .count) (r .figures .looks) (r .words)
 
+abbrev pub recalled : Reply → List ℕ → Answer
+recalled r memory = recalls (r .figures .number) (r .figures .count) (r .figures .looks) (r .words) memory
+
+-- the 65 words of an entry: dimension, rows, the rest zero
+abbrev pub entry : ℕ → List ℕ → List ℕ
+entry d rows = d ∷ (rows ++ replicate (64 - length rows) 0)
+
 abbrev pub picked : List ℕ → List ℕ → Chosen → Answer
 picked first second c = picks (c .number) (c .list) (partOf (c .list) first second)
 
 unfoldable pub answer : Call → Answer
 answer (minimal n rows budget lent) = replied (minimalReply n rows budget (replicate lent 9))
+answer (remembering n rows budget words lent) = let memory : List ℕ = replicate words 9 in let out : List ℕ = replicate lent 9 in recalled (rememberingReply n rows budget memory out) (memoryLeft n rows budget memory out)
 answer (greedy n rows lent) = replied (greedyReply n rows (replicate lent 9))
 answer (fixed n rows lent) = replied (fixedReply n rows (replicate lent 9))
 answer (shorter n rows first second) = picked first second (shorterReply n rows first second)
@@ -142,4 +154,17 @@ table =
     ∷ (charted X gives pairs (0 ∷ 0 ∷ 1 ∷ 1 ∷ []))
     ∷ (charted Y gives pairs (0 ∷ 1 ∷ 0 ∷ 1 ∷ []))
     ∷ (charted Z gives pairs (0 ∷ 1 ∷ 1 ∷ 0 ∷ []))
+    ∷ []
+
+-- those of a lent memory
+unfoldable pub memories : List Example
+memories =
+    -- rows 1 3 12 11, n = 2: three spaces fail, the last of them the whole one; with a look less it is spent (6), and that one was still open
+    (remembering 2 (1 ∷ 3 ∷ 12 ∷ 11 ∷ []) 7 200 5 gives recalls 0 4 7 (2 ∷ 8 ∷ 9 ∷ 1 ∷ 9 ∷ []) (entry 2 (1 ∷ 4 ∷ []) ++ (entry 2 (1 ∷ 6 ∷ []) ++ (entry 3 (1 ∷ 2 ∷ 4 ∷ []) ++ replicate 5 9))))
+    ∷ (remembering 2 (1 ∷ 3 ∷ 12 ∷ 11 ∷ []) 6 200 5 gives recalls 6 0 6 (9 ∷ 9 ∷ 9 ∷ 9 ∷ 9 ∷ []) (entry 2 (1 ∷ 4 ∷ []) ++ (entry 2 (1 ∷ 6 ∷ []) ++ replicate 70 9)))
+    -- CX 0 1, whose core is alternating: all of it is entered
+    ∷ (remembering 2 (played 2 (3 ∷ 0 ∷ 1 ∷ [])) 0 65 5 gives recalls 0 3 0 (4 ∷ 6 ∷ 2 ∷ 9 ∷ 9 ∷ []) (entry 2 (1 ∷ 2 ∷ [])))
+    -- a word too few for an entry; and an output word too few: 5
+    ∷ (remembering 2 (played 2 (3 ∷ 0 ∷ 1 ∷ [])) 0 64 5 gives recalls 0 3 0 (4 ∷ 6 ∷ 2 ∷ 9 ∷ 9 ∷ []) (replicate 64 9))
+    ∷ (remembering 2 (played 2 (3 ∷ 0 ∷ 1 ∷ [])) 0 65 4 gives recalls 5 0 0 (9 ∷ 9 ∷ 9 ∷ 9 ∷ []) (replicate 65 9))
     ∷ []

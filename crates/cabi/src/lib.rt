@@ -1,5 +1,5 @@
 // The calls by C's conventions: each returns 0, or the number of the first question that is answered no, and then leaves every lent
-// word as it was. include/turnlist.h says the same to C.
+// word as it was, but for a lent memory at 6 and 7. include/turnlist.h says the same to C.
 // Not in the source.
 ghost use mathlib.Core.Path.{_≡_};
 ghost use Prim.Native.Nat.{_*_, _≤_};
@@ -11,11 +11,12 @@ ghost use Rattle.shorter.specs.Promises.{Played, NeitherShorter, FirstAtEqual, 
 ghost use Rattle.fixed_space.specs.FixedSpace.{fixedReply};
 ghost use Rattle.fixed_space.specs.Promises.{InPlace, Complete, Reduced, Counted};
 ghost use Rattle.transvection.specs.Greedy.{greedyReply};
-ghost use Rattle.transvection_exact.specs.Minimal.{minimalReply};
-ghost use Rattle.transvection_exact.specs.Answers.{Shortest, Exact};
+ghost use Rattle.memory.specs.Entries.{roomIn};
+ghost use Rattle.transvection_exact.specs.Minimal.{minimalReply, rememberingReply, memoryLeft};
+ghost use Rattle.transvection_exact.specs.Answers.{Shortest, Exact, ExactWith, AsWithout};
 ghost use Rattle.gates.specs.Sequences.{sequenceTurns, gatesReply};
 ghost use Rattle.questions.specs.Answers.{lentNumber};
-ghost use Rattle.cabi.specs.Lent.{readFigures};
+ghost use Rattle.cabi.specs.Lent.{readFigures, PlainlyLent};
 
 // The minimal list of an action, and the looks of its search.
 #[no_mangle]
@@ -40,6 +41,41 @@ pub extern "C" fn turnlist_minimal(
     questions::tell(least.number, least.count, count);
     questions::tell(least.number, least.looks, looks);
     least.number
+}
+
+// The same with a lent memory of failed spaces.
+#[no_mangle]
+pub extern "C" fn turnlist_minimal_remembering(
+    n: u64,
+    rows: &[u64],
+    budget: u64,
+    memory: &mut [u64],
+    out: &mut [u64],
+    count: &mut u64,
+    looks: &mut u64,
+) -> u64
+    ensures answered { λ r. ⌜ r ≡ rememberingReply n (now (rows .entry)) budget (now (memory .entry)) (now (out .entry)) .figures .number ⌝ }
+    ensures left { λ r. ⌜ now (out .exit) ≡ rememberingReply n (now (rows .entry)) budget (now (memory .entry)) (now (out .entry)) .words ⌝ }
+    ensures held { λ r. ⌜ now (memory .exit) ≡ memoryLeft n (now (rows .entry)) budget (now (memory .entry)) (now (out .entry)) ⌝ }
+    ensures counted { λ r. ⌜ now (count .exit) ≡ lentNumber r (rememberingReply n (now (rows .entry)) budget (now (memory .entry)) (now (out .entry)) .figures .count) (now (count .entry)) ⌝ }
+    ensures drawn { λ r. ⌜ now (looks .exit) ≡ lentNumber r (rememberingReply n (now (rows .entry)) budget (now (memory .entry)) (now (out .entry)) .figures .looks) (now (looks .entry)) ⌝ }
+    ensures replays { λ r. ⌜ Replays n (now (rows .entry)) (now (out .exit)) (readFigures budget r (now (count .exit)) (now (looks .exit))) ⌝ }
+    ensures shortest { λ r. ⌜ Shortest n (now (rows .entry)) (readFigures budget r (now (count .exit)) (now (looks .exit))) ⌝ }
+    ensures exact { λ r. ⌜ ExactWith (roomIn (now (memory .entry))) n (now (rows .entry)) budget (now (out .entry)) (readFigures budget r (now (count .exit)) (now (looks .exit))) ⌝ }
+    ensures as_without { λ r. ⌜ AsWithout (minimalReply n (now (rows .entry)) budget (now (out .entry))) (now (out .exit)) (readFigures budget r (now (count .exit)) (now (looks .exit))) ⌝ }
+    ensures plainly { λ r. ⌜ PlainlyLent (minimalReply n (now (rows .entry)) budget (now (out .entry))) (now (memory .entry)) (now (memory .exit)) (now (out .exit)) r (now (count .entry)) (now (count .exit)) (now (looks .entry)) (now (looks .exit)) ⌝ }
+{
+    let answer = transvection_exact::clifford_to_transvections_minimal_remembering(
+        n,
+        rows,
+        budget,
+        memory,
+        out,
+    );
+    let remembered = transvection_exact::figures_of(answer);
+    questions::tell(remembered.number, remembered.count, count);
+    questions::tell(remembered.number, remembered.looks, looks);
+    remembered.number
 }
 
 // The greedy list of an action.

@@ -167,6 +167,12 @@ module _ {A : Type 0} (o : A) (add : A → A → A) where
   length-columns has (suc k) c h =
       length-columns has k (suc c) (column o add c (has c) h) ∙ size-column c (has c) h (pull (has c) (h .down)) (pull-size (has c) (h .down))
 
+  -- where no row is left from the pivot row down, a column changes nothing
+  pub columns-full : (has : ℕ → A → Bool) (k c : ℕ) (h : Echelon A) → h .down ≡ [] → columns o add has k c h ≡ h
+  unfolding columns
+  columns-full has zero c h e = refl
+  columns-full has (suc k) c h e = ap (λ l. columns o add has k (suc c) (columnBy o add c (has c) h (pull (has c) l))) e ∙ columns-full has k (suc c) h e
+
 -- ---- mapped rows are reduced by the same steps
 
 abbrev pub mapRows : {A B : Type 0} → (A → B) → Echelon A → Echelon B

@@ -12,3 +12,4 @@ pub mod Words
 pub mod Cut
 pub mod Parts
 pub mod InPlace
+pub mod Narrow

@@ -92,8 +92,13 @@ fn by_columns(m: usize, a: &mut [u64], t: &mut [u64], pivots: &mut [usize]) -> u
         × (halves r (take r (now (pivots .exit))) (zip (rowsIn (now (a .exit))) (rowsIn (now (t .exit))))
         ≡ columns (0, 0) addBoth (λ c x. bitOf c (x .0)) m 0 (unreduced (zip (rowsIn (now (a .entry))) (rowsIn (now (t .entry)))))) ⌝ }
 {
+    let k = blocks::rows_in(a);
     let mut p: usize = 0;
     for c in 0..m {
+        // every row has its pivot: no later column changes anything
+        if p == k {
+            return p;
+        }
         p = by_column(c, p, a, t, pivots);
     }
     p

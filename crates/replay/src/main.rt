@@ -4,6 +4,8 @@
 mod score;
 
 use questions::Figures;
+use records::number_at;
+use records::same;
 ghost use mathlib.Core.Path.{_≡_};
 ghost use mathlib.Core.Bool.{true};
 ghost use Prim.Native.Nat.{_≤_, _<_};
@@ -126,28 +128,6 @@ fn call(c: Case, lent: &[u64], out: &mut [u64]) -> Figures
 
 // ---- the records
 
-// Byte from + i, or 0 past the end.
-fn byte_at(bytes: &[u8], from: usize, i: usize) -> u64 {
-    if bytes.len() <= from {
-        return 0;
-    }
-    if bytes.len() - from <= i {
-        return 0;
-    }
-    bytes[from + i] as u64
-}
-
-// The little-endian number of some bytes; bytes past the end are 0.
-fn number_at(bytes: &[u8], from: usize, size: usize) -> u64 {
-    let mut v: u64 = 0;
-    let mut i = size;
-    while 0 < i {
-        i -= 1;
-        v = (v << 8) | byte_at(bytes, from, i);
-    }
-    v
-}
-
 // How many bytes some words take.
 fn span(words: usize, size: usize) -> usize
     requires { ⌜ (words ≤ 480) × (size ≤ 8) ⌝ }
@@ -212,23 +192,6 @@ fn fits(c: Case) -> bool
         return false;
     }
     c.count <= 160
-}
-
-// Whether the words are the same.
-fn same(a: &[u64], b: &[u64]) -> bool
-    ensures { λ r. ⌜ (r ≡ true → now (a .entry) ≡ now (b .entry)) × (now (a .entry) ≡ now (b .entry) → r ≡ true) ⌝ }
-{
-    if a.len() != b.len() {
-        return false;
-    }
-    let mut i = 0;
-    while i < a.len() {
-        if a[i] != b[i] {
-            return false;
-        }
-        i += 1;
-    }
-    true
 }
 
 // Whether the answer is that of the record.

@@ -7,6 +7,7 @@ use crate::known;
 use crate::span;
 use libc::STDIN_FILENO;
 use libc::STDOUT_FILENO;
+use records::more;
 ghost use Prim.Native.Nat.{_<_};
 ghost use Rattle.replay.specs.inner.Records.{HasRoom};
 
@@ -21,10 +22,6 @@ struct Score {
 struct Step {
     score: Score,
     ended: bool,
-}
-
-fn more(x: u64) -> u64 {
-    if x < u64::MAX { x + 1 } else { x }
 }
 
 fn one_more(counts: [u64; 6], k: usize) -> [u64; 6]

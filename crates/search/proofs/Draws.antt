@@ -1,48 +1,45 @@
--- One draw of a search in lent rows: what its steps leave behind the level, and the answer from what came back from there.
+-- One draw of a search in lent rows: what its steps leave behind the level is the rest that the draw passes on.
 -- Assumes nothing.
-use mathlib.Core.Path.{_≡_, refl, sym, ap, _∙_, subst}
+use mathlib.Core.Path.{_≡_, refl, sym, _∙_, subst}
 use mathlib.Core.Bool.{true}
-use mathlib.Core.List.{List, _∷_, _++_}
-use Prim.Native.Nat.{ℕ, _+_, _-_, _≤_, _<_}
+use mathlib.Core.List.{List, _++_}
+use Prim.Native.Nat.{ℕ, _+_, _-_, _^_, _≤_, _<_}
 use native.Mathlib.Nat.{le-refl}
 use native.Mathlib.Omega.{arith}
-use lib.ListN.{length, getD, set, take, drop, length-set, length-drop}
-use lib.Seq.{getD-set-other, take-set-le, length-take-le}
+use lib.ListN.{length, getD, take, drop, length-drop}
+use lib.Seq.{length-take-le}
 use Rattle.binar.specs.Bits.{dot}
 use Rattle.binar.specs.Rows.{width, lowest}
-use Rattle.blocks.specs.Matrices.{times}
+use Rattle.blocks.specs.Matrices.{times, All}
+use Rattle.blocks.proofs.All.{All·map}
+use Rattle.linear.proofs.Rows.{span-lt}
 use Rattle.residue.specs.Residue.{form}
-use Rattle.triangular.specs.declared.Ending.{Ending}
+use Rattle.residue.proofs.Forms.{form-right}
 use Rattle.triangular.specs.Spaces.{complement}
-use Rattle.triangular.specs.Search.{failed, afterRest, search, budgeted}
-use Rattle.triangular.specs.Readings.{verdictOf}
-use Rattle.search.specs.inner.Levels.{levels, foundIn, passedAt, gramOf, shrunk}
-use Rattle.triangular.proofs.Budgets.{drawn-before}
+use Rattle.triangular.proofs.Complements.{complement-in}
+use Rattle.search.specs.inner.Levels.{levels, passedAt, gramOf, shrunk}
 use Rattle.search.proofs.Grams.{gram-length}
-use Rattle.search.proofs.Levels.{levels-step, levels-least, levels-behind, front-less, level-rows, back-front, found-back}
+use Rattle.search.proofs.Levels.{levels-step, levels-least, levels-behind, level-rows, back-front}
 use Rattle.search.proofs.Passing.{first-hit, rest-length, passed-rest, passed-gram}
 
 -- what is known once the Gram rows are passed on (g₂)
-pub record Drawn (d : ℕ) (b₀ g₀ : List ℕ) (c g j : ℕ) (g₂ : List ℕ) : Type 0 where
+pub record Drawn (d : ℕ) (b₀ g₀ : List ℕ) (g j : ℕ) (g₂ : List ℕ) : Type 0 where
   pub some : 0 < d
   pub fits : d ≤ width
   pub b-room : levels d ≤ length b₀
   pub g-room : levels d ≤ length g₀
-  pub sum : g ≡ times c (take d g₀)
-  pub on : dot c g ≡ true
   pub column : j ≡ lowest g
   pub g₂-long : length g₂ ≡ length g₀
   pub g₂-front : take (d + d) g₂ ≡ take (d + d) g₀
   pub g₂-rows : j < d → (i : ℕ) → i < d - 1 → getD g₂ (d + d + i) 0 ≡ shrunk j g (passedAt g j (take d g₀) i)
 
--- the members are passed on too (b₁), and the draw kept behind them (b₂)
-pub record Moved (d : ℕ) (b₀ : List ℕ) (c g j : ℕ) (b₁ b₂ : List ℕ) : Type 0 where
+-- the members are passed on too (b₁)
+pub record Moved (d : ℕ) (b₀ : List ℕ) (g j : ℕ) (b₁ : List ℕ) : Type 0 where
   pub b₁-long : length b₁ ≡ length b₀
   pub b₁-front : take (d + d) b₁ ≡ take (d + d) b₀
   pub b₁-rows : j < d → (i : ℕ) → i < d - 1 → getD b₁ (d + d + i) 0 ≡ passedAt g j (take d b₀) i
-  pub b₂-is : b₂ ≡ set b₁ d c
 
-module _ (d : ℕ) (b₀ g₀ : List ℕ) (c g j : ℕ) (g₂ : List ℕ) (s : Drawn d b₀ g₀ c g j g₂) where
+module _ (d : ℕ) (b₀ g₀ : List ℕ) (g j : ℕ) (g₂ : List ℕ) (s : Drawn d b₀ g₀ g j g₂) where
   behind-g : d + d + (d - 1) ≤ length g₂
   behind-g = omega (arith, levels-behind d (s .some), s .g-room, s .g₂-long)
 
@@ -53,10 +50,8 @@ module _ (d : ℕ) (b₀ g₀ : List ℕ) (c g j : ℕ) (g₂ : List ℕ) (s : D
   pub gram-kept : (ys : List ℕ) → take (d + d) (take (d + d) g₂ ++ ys) ≡ take (d + d) g₀
   gram-kept ys = back-front (d + d) g₂ ys (omega (arith, behind-g)) (d + d) (le-refl (d + d)) ∙ s .g₂-front
 
-  module _ (E : List ℕ) (is : gramOf E (take d b₀) ≡ take d g₀) where
-    abbrev p : ℕ
-    p = times c (take d b₀)
-
+  -- the draw by its coefficients c
+  module _ (E : List ℕ) (c : ℕ) (is : gramOf E (take d b₀) ≡ take d g₀) (sum : g ≡ times c (take d g₀)) (on : dot c g ≡ true) where
     abbrev pub rest : List ℕ
     rest = complement (form E (times c (take d b₀))) (take d b₀)
 
@@ -64,44 +59,37 @@ module _ (d : ℕ) (b₀ g₀ : List ℕ) (c g j : ℕ) (g₂ : List ℕ) (s : D
     size = length-take-le d b₀ (omega (arith, levels-least d, s .b-room))
 
     inside : j < d
-    inside = subst (λ n. j < n) size (first-hit d (s .fits) E (take d b₀) (take d g₀) size is c g j (s .sum) (s .on) (s .column) .inside)
+    inside = subst (λ n. j < n) size (first-hit d (s .fits) E (take d b₀) (take d g₀) size is c g j sum on (s .column) .inside)
 
     short : length rest ≡ d - 1
-    short = rest-length d (s .fits) E (take d b₀) (take d g₀) size is c g j (s .sum) (s .on) (s .column)
+    short = rest-length d (s .fits) E (take d b₀) (take d g₀) size is c g j sum on (s .column)
 
     pub rest-gram : gramOf E rest ≡ take (d - 1) (drop (d + d) g₂)
     rest-gram =
         sym (level-rows (d - 1) (d + d) g₂ (gramOf E rest) behind-g (gram-length E rest (gramOf E rest) refl ∙ short)
-        (λ i l. s .g₂-rows inside i l
-        ∙ passed-gram d (s .fits) E (take d b₀) (take d g₀) size is c g j (s .sum) (s .on) (s .column) i l))
+        (λ i l. s .g₂-rows inside i l ∙ passed-gram d (s .fits) E (take d b₀) (take d g₀) size is c g j sum on (s .column) i l))
 
-  module _ (b₁ b₂ : List ℕ) (m : Moved d b₀ c g j b₁ b₂) where
-    b₂-long : length b₂ ≡ length b₀
-    b₂-long = ap length (m .b₂-is) ∙ length-set b₁ d c ∙ m .b₁-long
+    pub rest-small : All (λ v. v < 2 ^ width) (take d b₀) → All (λ v. v < 2 ^ width) rest
+    rest-small small =
+        let p = times c (take d b₀) in
+        All·map (λ y k. span-lt width (take d b₀) small y (k .0)) rest (complement-in (form E p) (form-right E p) (take d b₀))
 
-    behind-b : d + d + (d - 1) ≤ length b₂
-    behind-b = omega (arith, levels-behind d (s .some), s .b-room, b₂-long)
+  module _ (b₁ : List ℕ) (m : Moved d b₀ g j b₁) where
+    behind-b : d + d + (d - 1) ≤ length b₁
+    behind-b = omega (arith, levels-behind d (s .some), s .b-room, m .b₁-long)
 
-    pub room-b : levels (d - 1) ≤ length (drop (d + d) b₂)
-    room-b = omega (arith, length-drop (d + d) b₂, levels-step d (s .some), b₂-long, s .b-room)
+    pub room-b : levels (d - 1) ≤ length (drop (d + d) b₁)
+    room-b = omega (arith, length-drop (d + d) b₁, levels-step d (s .some), m .b₁-long, s .b-room)
 
-    pub basis-kept : (ys : List ℕ) → take d (take (d + d) b₂ ++ ys) ≡ take d b₀
-    basis-kept ys =
-        back-front (d + d) b₂ ys (omega (arith, behind-b)) d (omega arith) ∙ ap (take d) (m .b₂-is) ∙ take-set-le d b₁ d c (le-refl d)
-        ∙ front-less d (d + d) b₁ b₀ (omega arith) (m .b₁-front)
+    pub basis-kept : (ys : List ℕ) → take (d + d) (take (d + d) b₁ ++ ys) ≡ take (d + d) b₀
+    basis-kept ys = back-front (d + d) b₁ ys (omega (arith, behind-b)) (d + d) (le-refl (d + d)) ∙ m .b₁-front
 
-    module _ (E : List ℕ) (is : gramOf E (take d b₀) ≡ take d g₀) where
-      pub child : take (d - 1) (drop (d + d) b₂) ≡ rest E is
+    pub within-b : d + d ≤ length b₁
+    within-b = omega (arith, behind-b)
+
+    module _ (E : List ℕ) (c : ℕ) (is : gramOf E (take d b₀) ≡ take d g₀) (sum : g ≡ times c (take d g₀)) (on : dot c g ≡ true) where
+      pub child : take (d - 1) (drop (d + d) b₁) ≡ rest E c is sum on
       child =
-          level-rows (d - 1) (d + d) b₂ (rest E is) behind-b (short E is)
-          (λ i l. ap (λ w. getD w (d + d + i) 0) (m .b₂-is) ∙ getD-set-other b₁ d (d + d + i) c 0 (λ q. omega (arith, s .some)) ∙ m .b₁-rows (inside E is) i l
-          ∙ passed-rest d (s .fits) E (take d b₀) (take d g₀) (size E is) is c g j (s .sum) (s .on) (s .column) i l)
-
-      -- what the search of the rest came to, and the draw before it
-      pub answer : (budget looks : ℕ) (v : Ending) (k : ℕ) (ys : List ℕ)
-          → verdictOf v k (foundIn (d - 1) ys) ≡ budgeted budget (search (form E) (d - 1) (take (d - 1) (drop (d + d) b₂)) looks)
-          → verdictOf v k (foundIn d (take (d + d) b₂ ++ ys)) ≡ budgeted budget (afterRest (p E is) failed (search (form E) (d - 1) (rest E is) looks))
-      answer budget looks v k ys came =
-          ap (verdictOf v k) (found-back d c b₁ b₂ ys (s .some) (omega (arith, behind-b, b₂-long, m .b₁-long)) (m .b₂-is)
-          ∙ ap (λ M. times c M ∷ foundIn (d - 1) ys) (front-less d (d + d) b₁ b₀ (omega arith) (m .b₁-front)))
-          ∙ drawn-before budget (p E is) (search (form E) (d - 1) (rest E is) looks) v k (foundIn (d - 1) ys) (came ∙ ap (λ M. budgeted budget (search (form E) (d - 1) M looks)) child)
+          level-rows (d - 1) (d + d) b₁ (rest E c is sum on) behind-b (short E c is sum on)
+          (λ i l. m .b₁-rows (inside E c is sum on) i l
+          ∙ passed-rest d (s .fits) E (take d b₀) (take d g₀) (size E c is sum on) is c g j sum on (s .column) i l)

@@ -9,7 +9,7 @@ use native.Mathlib.Nat.{add-zero, zero-add, add-assoc, suc-add, eq-or-lt-of-le, 
 use native.Mathlib.Omega.{arith}
 use lib.Dec.{ltb}
 use lib.ListN.{length, getD, set, take, drop, length-set, length-drop}
-use lib.Seq.{drop-drop, getD-take, getD-drop, getD-set-same, getD-set-other, take-take, length-take-le, ext-getD, take-append-le, take-set-le, drop-at}
+use lib.Seq.{drop-drop, getD-take, getD-drop, getD-set-same, getD-set-other, take-take, length-take-le, ext-getD, take-append-le, take-set-le, drop-set-lt, take-add, drop-at}
 use Rattle.binar.specs.Bits.{select, _⊕_, bit}
 use Rattle.binar.specs.Rows.{width}
 use Rattle.binar.proofs.Digits.{bit-down}
@@ -73,6 +73,12 @@ front-get n a b e i h = sym (getD-take n a i 0 h) ∙ ap (λ l. getD l i 0) e �
 pub front-less : (m n : ℕ) (a b : List ℕ) → m ≤ n → take n a ≡ take n b → take m a ≡ take m b
 front-less m n a b h e = sym (take-take m n a h) ∙ ap (take m) e ∙ take-take m n b h
 
+-- those behind the first n
+pub behind-front : (n m : ℕ) (a b : List ℕ) → n ≤ length a → n ≤ length b → take (n + m) a ≡ take (n + m) b → take m (drop n a) ≡ take m (drop n b)
+behind-front n m a b h k e =
+    sym (drop-at (take n a) (take m (drop n a)) n (length-take-le n a h)) ∙ ap (drop n) (sym (take-add n m a) ∙ e ∙ take-add n m b)
+    ∙ drop-at (take n b) (take m (drop n b)) n (length-take-le n b k)
+
 -- a read of one of the first d
 pub front-row : (d n : ℕ) (a b : List ℕ) → take n a ≡ take n b → d ≤ n → (i : ℕ) → i < d → getD a i 0 ≡ getD (take d b) i 0
 front-row d n a b e h i l = front-get n a b e i (omega arith) ∙ sym (getD-take d b i 0 l)
@@ -132,7 +138,7 @@ module _ (n : ℕ) (xs ys : List ℕ) (inside : n ≤ length xs) where
       let e : length (take n xs) ≡ n = length-take-le n xs inside in
       take-append-le m (take n xs) ys (omega arith) ∙ take-take m n xs h
 
-  back-rest : drop n (take n xs ++ ys) ≡ ys
+  pub back-rest : drop n (take n xs ++ ys) ≡ ys
   back-rest = drop-at (take n xs) ys n (length-take-le n xs inside)
 
 -- ---- the draws that are kept
@@ -147,19 +153,13 @@ unfolding foundIn
 found-step zero w h = absurd (omega arith)
 found-step (suc d) w h = let e : suc d - 1 ≡ d = omega arith in ap (λ n. times (getD w (suc d) 0) (take (suc d) w) ∷ foundIn n (drop (suc d + suc d) w)) (sym e)
 
--- a draw c kept behind the members of xs, and behind it what came back
-pub found-back : (d c : ℕ) (xs w ys : List ℕ) → 0 < d → d + d ≤ length xs → w ≡ set xs d c
-    → foundIn d (take (d + d) w ++ ys) ≡ times c (take d xs) ∷ foundIn (d - 1) ys
-found-back d c xs w ys pos long kept =
-    let size : length w ≡ length xs = ap length kept ∙ length-set xs d c in
-    let in-w : d + d ≤ length w = omega arith in
-    let back = take (d + d) w ++ ys in
-    found-step d back pos
+-- a draw c kept behind the members
+pub found-kept : (d c : ℕ) (xs w : List ℕ) → 0 < d → d + d ≤ length xs → w ≡ set xs d c → foundIn d w ≡ times c (take d xs) ∷ foundIn (d - 1) (drop (d + d) xs)
+found-kept d c xs w pos long kept =
+    found-step d w pos
     ∙ ap₂ (λ x l. x ∷ foundIn (d - 1) l)
-    (ap₂ times
-    (front-get (d + d) back w (back-front (d + d) w ys in-w (d + d) (le-refl (d + d))) d (omega arith) ∙ ap (λ l. getD l d 0) kept ∙ getD-set-same xs d c 0 (omega arith))
-    (back-front (d + d) w ys in-w d (omega arith) ∙ ap (take d) kept ∙ take-set-le d xs d c (le-refl d)))
-    (back-rest (d + d) w ys in-w)
+    (ap₂ times (ap (λ l. getD l d 0) kept ∙ getD-set-same xs d c 0 (omega arith)) (ap (take d) kept ∙ take-set-le d xs d c (le-refl d)))
+    (ap (drop (d + d)) kept ∙ drop-set-lt (d + d) xs d c (omega arith))
 
 pub found-length : (k : ℕ) (w : List ℕ) → length (foundIn k w) ≡ k
 unfolding foundIn

@@ -3,4 +3,7 @@ pub mod Grams
 pub mod Shrinks
 pub mod Passing
 pub mod Levels
+pub mod Reduces
 pub mod Draws
+pub mod Reported
+pub mod Going

@@ -1,1 +1,3 @@
 pub mod Levels
+pub mod Reports
+pub mod Asked

@@ -1,14 +1,16 @@
-// The search for a basis that makes the core triangular, draw by draw under a budget.
+// The search for a basis that makes the core triangular, draw by draw under a budget, with a memory of spaces that failed.
 // In the source: transvection_exact.rs, `is_alternating`, `SpanVectors`, `right_orthogonal_complement`, `triangularize_subspace`, `congruence_triangularize`.
 // A space stands in two lent slices: the members of its basis, and its Gram matrix, in row i the forms of member i with each member. In
-// dimension d these are d rows of each; d more are for the sums of the first Gram rows, and for the draw by its coefficients behind the
-// members. Behind them stands, in the same way, the space that the draw passes on.
+// dimension d these are d rows of each; d more are for the sums of the first Gram rows, and behind the members for their reduced basis,
+// then, where the space has a good basis, for the draw by its coefficients. Behind them stands, in the same way, the space that the draw
+// passes on.
 use binar::Row;
 use binar::WIDTH;
+use memory::ENTRY;
 use triangular::Ending;
 ghost use mathlib.Core.Path.{_≡_};
 ghost use mathlib.Core.Bool.{true, false, _&&_};
-ghost use mathlib.Core.List.{List};
+ghost use mathlib.Core.List.{List, [], _++_};
 ghost use Prim.Native.Nat.{ℕ, suc, _+_, _-_, _^_, _≤_, _<_};
 ghost use lib.Dec.{ltb};
 ghost use lib.ListN.{length, getD, take, drop};
@@ -17,15 +19,35 @@ ghost use Rattle.binar.specs.Rows.{val, width};
 ghost use Rattle.blocks.specs.Matrices.{times, units};
 ghost use Rattle.blocks.specs.Words.{rowsIn, over};
 ghost use Rattle.residue.specs.Residue.{form};
+ghost use Rattle.triangular.specs.declared.Ending.the-variants.{Failed};
 ghost use Rattle.triangular.specs.Spaces.{complement, isAlternating};
-ghost use Rattle.triangular.specs.Search.{failed, afterRest, search, budgeted};
+ghost use Rattle.triangular.specs.Search.{budgeted};
+ghost use Rattle.triangular.specs.Memory.{Entry, reducedBasis, holds, drawsWith, searchWith, searchedCore, knownWithin};
 ghost use Rattle.triangular.specs.Readings.{coreIn, verdictOf, basisFound};
+ghost use Rattle.memory.specs.Entries.{entrySize, memoryWords, roomIn, entered, taken};
+ghost use Rattle.memory.specs.Kept.{Kept};
 ghost use Rattle.search.specs.inner.Levels.{levels, foundIn, keptOr, passedAt, gramOf, shrunk as shrunkOf};
+ghost use Rattle.search.specs.inner.Reports.{Space, Carries, Grew, Reports};
+ghost use Rattle.search.specs.inner.Asked.{Known};
 
 // How a search ended, and how many draws have been taken by then.
 pub struct Ended {
     pub ending: Ending,
     pub looks: u64,
+}
+
+// The same, and how many words of the memory are in use.
+struct Step {
+    ending: Ending,
+    looks: u64,
+    used: usize,
+}
+
+// What is known of a space before its first draw.
+enum Asked {
+    Held,
+    Alternating,
+    Open,
 }
 
 // Whether a space has members and its form is alternating: each member is tested with those before it, then with itself.
@@ -127,85 +149,224 @@ fn pass_gram(gram: &mut [u64], d: usize, h: Row, j: usize)
     }
 }
 
-// The search of what a draw passes on: c are its coefficients, and g, the Gram rows of c, says which members it has form one with. The
-// members are passed on only if what is passed on is not alternating, which its Gram rows tell.
+// Behind the members, the members once more.
+fn put_again(basis: &mut [u64], d: usize)
+    requires { ⌜ (d ≤ width) × (d + d ≤ length (rowsIn (now basis))) ⌝ }
+    ensures { λ _. ⌜ (take d (rowsIn (now (basis .exit))) ≡ take d (rowsIn (now (basis .entry)))) × (take d (drop d (rowsIn (now (basis .exit)))) ≡ take d (rowsIn (now (basis .entry)))) ⌝ }
+{
+    for i in 0..d {
+        blocks::put(basis, d + i, blocks::row(basis, i));
+    }
+}
+
+// Behind the members, their reduced basis. Of the Gram rows those behind them serve for the transform.
+fn put_reduced(basis: &mut [u64], gram: &mut [u64], d: usize)
+    requires { ⌜ (d ≤ width) × (d + d ≤ length (rowsIn (now basis))) × (d + d ≤ length (rowsIn (now gram))) ⌝ }
+    ensures { λ _. ⌜ (take d (rowsIn (now (basis .exit))) ≡ take d (rowsIn (now (basis .entry)))) × (take d (rowsIn (now (gram .exit))) ≡ take d (rowsIn (now (gram .entry))))
+        × (take d (drop d (rowsIn (now (basis .exit)))) ≡ reducedBasis width (take d (rowsIn (now (basis .entry))))) ⌝ }
+{
+    put_again(basis, d);
+    let mut pivots = [0; WIDTH];
+    let b = blocks::start(&basis[..], d);
+    let s = blocks::start(&gram[..], d);
+    // as many rows are reduced as there is room for pivots
+    reduction::row_reduce_with_transform(WIDTH, &mut basis[b..], &mut gram[s..], &mut pivots[..d]);
+}
+
+// Puts the reduced basis of a space behind its members, and asks whether the memory holds it, then whether it is alternating.
+fn ask(basis: &mut [u64], gram: &mut [u64], memory: &[u64], d: usize, used: usize) -> Asked
+    requires { ⌜ (0 < d) × (d ≤ width) × (d + d ≤ length (rowsIn (now basis))) × (d + d ≤ length (rowsIn (now gram))) × (used ≤ length (now memory)) ⌝ }
+    ensures { λ r. ⌜ (take d (rowsIn (now (basis .exit))) ≡ take d (rowsIn (now (basis .entry)))) × (take d (rowsIn (now (gram .exit))) ≡ take d (rowsIn (now (gram .entry))))
+        × (take d (drop d (rowsIn (now (basis .exit)))) ≡ reducedBasis width (take d (rowsIn (now (basis .entry)))))
+        × ((E : List ℕ) (M : List Entry) → gramOf E (take d (rowsIn (now (basis .entry)))) ≡ take d (rowsIn (now (gram .entry))) → Kept (now (memory .entry)) used M
+        → Known r (holds d (reducedBasis width (take d (rowsIn (now (basis .entry))))) M) (isAlternating (form E) (take d (rowsIn (now (basis .entry)))))) ⌝ }
+{
+    put_reduced(basis, gram, d);
+    let b = blocks::start(&basis[..], d);
+    let c = blocks::start(&basis[..], d + d);
+    if memory::holds(&memory[..used], &basis[b..c]) {
+        return Asked::Held;
+    }
+    if is_alternating(&gram[..], d) {
+        return Asked::Alternating;
+    }
+    Asked::Open
+}
+
+// Enters a space that failed, by the reduced basis behind its members; answers how many words are then in use.
+fn note(memory: &mut [u64], used: usize, basis: &[u64], d: usize) -> usize
+    requires { ⌜ (used ≤ length (now memory)) × (d ≤ width) × (d + d ≤ length (rowsIn (now basis))) ⌝ }
+    ensures { λ r. ⌜ (r ≡ used + taken (drop used (now (memory .entry)))) × (now (memory .exit) ≡ take used (now (memory .entry)) ++ entered (take d (drop d (rowsIn (now (basis .entry))))) (drop used (now (memory .entry)))) ⌝ }
+{
+    let b = blocks::start(basis, d);
+    let c = blocks::start(basis, d + d);
+    used + memory::enter(&mut memory[used..], &basis[b..c])
+}
+
+// The search of what a draw passes on: g, the Gram rows of the draw, says which members it has form one with. Where no memory is lent,
+// its members are passed on only if it is not alternating, which its Gram rows tell.
 fn try_draw(
     basis: &mut [u64],
     gram: &mut [u64],
+    memory: &mut [u64],
     d: usize,
-    c: Row,
     g: Row,
+    used: usize,
     looks: u64,
     budget: u64,
-) -> Ended
-    requires { ⌜ (0 < d) × (d ≤ width) × (levels d ≤ length (rowsIn (now basis))) × (levels d ≤ length (rowsIn (now gram))) × (looks ≤ budget)
-        × (val g ≡ times (val c) (take d (rowsIn (now gram)))) × (dot (val c) (val g) ≡ true) ⌝ }
-    ensures { λ r. ⌜ (r .looks ≤ budget) × (take d (rowsIn (now (basis .exit))) ≡ take d (rowsIn (now (basis .entry))))
-        × (take (d + d) (rowsIn (now (gram .exit))) ≡ take (d + d) (rowsIn (now (gram .entry))))
-        × ((E : List ℕ) → gramOf E (take d (rowsIn (now (basis .entry)))) ≡ take d (rowsIn (now (gram .entry)))
-        → (let p = times (val c) (take d (rowsIn (now (basis .entry)))) in verdictOf (r .ending) (r .looks) (foundIn d (rowsIn (now (basis .exit))))
-        ≡ budgeted budget (afterRest p failed (search (form E) (d - 1) (complement (form E p) (take d (rowsIn (now (basis .entry))))) looks)))) ⌝ }
+) -> Step
+    requires { ⌜ (0 < d) × (d ≤ width) × (levels d ≤ length (rowsIn (now basis))) × (levels d ≤ length (rowsIn (now gram))) × (looks ≤ budget) × (used ≤ length (now memory)) ⌝ }
+    ensures { λ r. ⌜ (r .looks ≤ budget) × Grew (now (memory .entry)) used (now (memory .exit)) (r .used)
+        × (take (d + d) (rowsIn (now (basis .exit))) ≡ take (d + d) (rowsIn (now (basis .entry)))) × (take (d + d) (rowsIn (now (gram .exit))) ≡ take (d + d) (rowsIn (now (gram .entry))))
+        × ((E : List ℕ) (M : List Entry) (c : ℕ) → Space E d (rowsIn (now (basis .entry))) (rowsIn (now (gram .entry))) → Carries looks (now (memory .entry)) used M
+        → val g ≡ times c (take d (rowsIn (now (gram .entry)))) → dot c (val g) ≡ true
+        → Reports budget (searchWith (form E) width (roomIn (now (memory .entry))) (d - 1) (complement (form E (times c (take d (rowsIn (now (basis .entry)))))) (take d (rowsIn (now (basis .entry))))) looks M)
+        (r .ending) (r .looks) (foundIn (d - 1) (drop (d + d) (rowsIn (now (basis .exit))))) (now (memory .exit)) (r .used)) ⌝ }
 {
+    if d == 1 {
+        return Step {
+            ending: Ending::Found,
+            looks: looks,
+            used: used,
+        };
+    }
     let j = binar::lowest(g);
     pass_gram(gram, d, g, j);
     let s = blocks::start(&gram[..], d + d);
+    let b = blocks::start(&basis[..], d + d);
+    if ENTRY <= memory.len() {
+        pass_members(basis, d, g, j);
+        return try_space(
+            &mut basis[b..],
+            &mut gram[s..],
+            memory,
+            d - 1,
+            used,
+            looks,
+            budget,
+        );
+    }
     if is_alternating(&gram[s..], d - 1) {
-        return Ended {
+        return Step {
             ending: Ending::Failed,
             looks: looks,
+            used: used,
         };
     }
     pass_members(basis, d, g, j);
-    blocks::put(basis, d, c);
-    let b = blocks::start(&basis[..], d + d);
-    try_space(&mut basis[b..], &mut gram[s..], d - 1, looks, budget)
+    try_draws(
+        &mut basis[b..],
+        &mut gram[s..],
+        memory,
+        d - 1,
+        used,
+        looks,
+        budget,
+    )
 }
 
-// The search of a space that is empty or not alternating: its vectors in the order of their coefficients c, the Gram rows of each from
-// those of the one before it.
-fn try_space(basis: &mut [u64], gram: &mut [u64], d: usize, looks: u64, budget: u64) -> Ended
-    requires { ⌜ (d ≤ width) × (levels d ≤ length (rowsIn (now basis))) × (levels d ≤ length (rowsIn (now gram))) × (looks ≤ budget)
-        × ((E : List ℕ) → gramOf E (take d (rowsIn (now basis))) ≡ take d (rowsIn (now gram)) → (isAlternating (form E) (take d (rowsIn (now basis))) && ltb 0 d) ≡ false) ⌝ }
-    ensures { λ r. ⌜ (r .looks ≤ budget) × ((E : List ℕ) → gramOf E (take d (rowsIn (now (basis .entry)))) ≡ take d (rowsIn (now (gram .entry)))
-        → verdictOf (r .ending) (r .looks) (foundIn d (rowsIn (now (basis .exit)))) ≡ budgeted budget (search (form E) d (take d (rowsIn (now (basis .entry)))) looks)) ⌝ }
+// The search of a space, with a memory.
+fn try_space(
+    basis: &mut [u64],
+    gram: &mut [u64],
+    memory: &mut [u64],
+    d: usize,
+    used: usize,
+    looks: u64,
+    budget: u64,
+) -> Step
+    requires { ⌜ (0 < d) × (d ≤ width) × (levels d ≤ length (rowsIn (now basis))) × (levels d ≤ length (rowsIn (now gram))) × (looks ≤ budget) × (used ≤ length (now memory)) ⌝ }
+    ensures { λ r. ⌜ (r .looks ≤ budget) × Grew (now (memory .entry)) used (now (memory .exit)) (r .used)
+        × ((E : List ℕ) (M : List Entry) → Space E d (rowsIn (now (basis .entry))) (rowsIn (now (gram .entry))) → Carries looks (now (memory .entry)) used M
+        → Reports budget (searchWith (form E) width (roomIn (now (memory .entry))) d (take d (rowsIn (now (basis .entry)))) looks M)
+        (r .ending) (r .looks) (foundIn d (rowsIn (now (basis .exit)))) (now (memory .exit)) (r .used)) ⌝ }
 {
-    if d == 0 {
-        return Ended {
-            ending: Ending::Found,
-            looks: looks,
-        };
+    let asked = ask(basis, gram, &memory[..], d, used);
+    match asked {
+        Asked::Held => {
+            return Step {
+                ending: Ending::Failed,
+                looks: looks,
+                used: used,
+            };
+        }
+        Asked::Alternating => {
+            return Step {
+                ending: Ending::Failed,
+                looks: looks,
+                used: note(memory, used, &basis[..], d),
+            };
+        }
+        Asked::Open => {}
     }
+    let o = try_draws(basis, gram, memory, d, used, looks, budget);
+    let e = o.ending;
+    match e {
+        Ending::Failed => Step {
+            ending: Ending::Failed,
+            looks: o.looks,
+            used: note(memory, o.used, &basis[..], d),
+        },
+        _ => o,
+    }
+}
+
+// The draws of a space: its vectors in the order of their coefficients c, the Gram rows of each from those of the one before it.
+fn try_draws(
+    basis: &mut [u64],
+    gram: &mut [u64],
+    memory: &mut [u64],
+    d: usize,
+    used: usize,
+    looks: u64,
+    budget: u64,
+) -> Step
+    requires { ⌜ (0 < d) × (d ≤ width) × (levels d ≤ length (rowsIn (now basis))) × (levels d ≤ length (rowsIn (now gram))) × (looks ≤ budget) × (used ≤ length (now memory)) ⌝ }
+    ensures { λ r. ⌜ (r .looks ≤ budget) × Grew (now (memory .entry)) used (now (memory .exit)) (r .used)
+        × (r .ending ≡ Failed → take (d + d) (rowsIn (now (basis .exit))) ≡ take (d + d) (rowsIn (now (basis .entry))))
+        × ((E : List ℕ) (M : List Entry) → Space E d (rowsIn (now (basis .entry))) (rowsIn (now (gram .entry))) → Carries looks (now (memory .entry)) used M
+        → Reports budget (drawsWith (form E) width (roomIn (now (memory .entry))) (searchWith (form E) width (roomIn (now (memory .entry))) (d - 1)) (take d (rowsIn (now (basis .entry)))) (2 ^ d - 1) 1 looks M)
+        (r .ending) (r .looks) (foundIn d (rowsIn (now (basis .exit)))) (now (memory .exit)) (r .used)) ⌝ }
+{
     sums(gram, d);
     let last = binar::low_ones(d);
     let mut c = binar::zero();
     let mut g = c;
     let mut spent = looks;
+    let mut kept = used;
     while binar::less(c, last) {
         c = binar::next(c);
         if spent == budget {
-            return Ended {
+            return Step {
                 ending: Ending::Spent,
                 looks: spent,
+                used: kept,
             };
         }
         spent += 1;
         g = binar::sum(g, blocks::row(gram, d + binar::lowest(c)));
         if binar::dot(c, g) {
-            let o = try_draw(basis, gram, d, c, g, spent, budget);
+            let o = try_draw(basis, gram, memory, d, g, kept, spent, budget);
             let e = o.ending;
             match e {
                 Ending::Failed => {
                     spent = o.looks;
+                    kept = o.used;
                 }
-                _ => {
+                Ending::Found => {
+                    blocks::put(basis, d, c);
+                    return o;
+                }
+                Ending::Spent => {
                     return o;
                 }
             }
         }
     }
-    Ended {
+    Step {
         ending: Ending::Failed,
         looks: spent,
+        used: kept,
     }
 }
 
@@ -244,6 +405,27 @@ fn begin(basis: &mut [u64], gram: &mut [u64], core: &[u64], k: usize)
     }
 }
 
+// The search of all rows. Where no memory is lent, nothing is looked up.
+fn try_all(basis: &mut [u64], gram: &mut [u64], memory: &mut [u64], k: usize, budget: u64) -> Step
+    requires { ⌜ (0 < k) × (k ≤ width) × (levels k ≤ length (rowsIn (now basis))) × (levels k ≤ length (rowsIn (now gram))) ⌝ }
+    ensures { λ r. ⌜ Grew (now (memory .entry)) 0 (now (memory .exit)) (r .used)
+        × ((E : List ℕ) → Space E k (rowsIn (now (basis .entry))) (rowsIn (now (gram .entry)))
+        → Reports budget (searchWith (form E) width (roomIn (now (memory .entry))) k (take k (rowsIn (now (basis .entry)))) 0 [])
+        (r .ending) (r .looks) (foundIn k (rowsIn (now (basis .exit)))) (now (memory .exit)) (r .used)) ⌝ }
+{
+    if ENTRY <= memory.len() {
+        return try_space(basis, gram, memory, k, 0, 0, budget);
+    }
+    if is_alternating(&gram[..], k) {
+        return Step {
+            ending: Ending::Failed,
+            looks: 0,
+            used: 0,
+        };
+    }
+    try_draws(basis, gram, memory, k, 0, 0, budget)
+}
+
 // The search from there, in lent words; a basis that it finds is put over a lent list.
 fn searched(
     basis: &mut [u64],
@@ -251,55 +433,76 @@ fn searched(
     core: &[u64],
     k: usize,
     budget: u64,
+    memory: &mut [u64],
     list: &mut [u64],
 ) -> Ended
     requires { ⌜ (k ≤ width) × (k ≡ length (coreIn (now core))) × (levels k ≤ length (rowsIn (now basis))) × (levels k ≤ length (rowsIn (now gram))) ⌝ }
-    ensures answered { λ r. ⌜ (let v = budgeted budget (search (form (coreIn (now (core .entry)))) (length (coreIn (now (core .entry)))) (units (length (coreIn (now (core .entry))))) 0) in verdictOf (r .ending) (r .looks) (basisFound v) ≡ v) ⌝ }
-    ensures left { λ r. ⌜ rowsIn (now (list .exit)) ≡ over (basisFound (budgeted budget (search (form (coreIn (now (core .entry)))) (length (coreIn (now (core .entry)))) (units (length (coreIn (now (core .entry))))) 0))) (rowsIn (now (list .entry))) ⌝ }
+    ensures answered { λ r. ⌜ (let v = budgeted budget (searchedCore (coreIn (now (core .entry))) (roomIn (now (memory .entry))) .outcome) in verdictOf (r .ending) (r .looks) (basisFound v) ≡ v) ⌝ }
+    ensures left { λ r. ⌜ rowsIn (now (list .exit)) ≡ over (basisFound (budgeted budget (searchedCore (coreIn (now (core .entry))) (roomIn (now (memory .entry))) .outcome))) (rowsIn (now (list .entry))) ⌝ }
+    ensures remembered { λ r. ⌜ now (memory .exit) ≡ over (memoryWords (knownWithin budget (searchedCore (coreIn (now (core .entry))) (roomIn (now (memory .entry))) .memory))) (now (memory .entry)) ⌝ }
 {
     begin(basis, gram, core, k);
-    if is_alternating(&gram[..], k) {
+    if k == 0 {
         return Ended {
-            ending: Ending::Failed,
+            ending: Ending::Found,
             looks: 0,
         };
     }
-    let o = try_space(basis, gram, k, 0, budget);
+    let o = try_all(basis, gram, memory, k, budget);
+    let looks = o.looks;
     let e = o.ending;
     match e {
         Ending::Found => {
             collected(&basis[..], k, list);
-            return o;
+            return Ended {
+                ending: Ending::Found,
+                looks: looks,
+            };
         }
-        _ => {
-            return o;
+        Ending::Failed => {
+            return Ended {
+                ending: Ending::Failed,
+                looks: looks,
+            };
+        }
+        Ending::Spent => {
+            return Ended {
+                ending: Ending::Spent,
+                looks: looks,
+            };
         }
     }
 }
 
-// Looks for a basis that makes the core triangular, and puts what it finds over a lent list. Rows of the core past the columns of a row
-// are left out.
-pub fn congruence_triangularize(core: &[u64], budget: u64, list: &mut [u64]) -> Ended
-    ensures answered { λ r. ⌜ (let v = budgeted budget (search (form (coreIn (now (core .entry)))) (length (coreIn (now (core .entry)))) (units (length (coreIn (now (core .entry))))) 0) in verdictOf (r .ending) (r .looks) (basisFound v) ≡ v) ⌝ }
-    ensures left { λ r. ⌜ rowsIn (now (list .exit)) ≡ over (basisFound (budgeted budget (search (form (coreIn (now (core .entry)))) (length (coreIn (now (core .entry)))) (units (length (coreIn (now (core .entry))))) 0))) (rowsIn (now (list .entry))) ⌝ }
+// Looks for a basis that makes the core triangular, and puts what it finds over a lent list and the spaces that failed over a lent
+// memory. Rows of the core past the columns of a row are left out.
+pub fn congruence_triangularize(
+    core: &[u64],
+    budget: u64,
+    memory: &mut [u64],
+    list: &mut [u64],
+) -> Ended
+    ensures answered { λ r. ⌜ (let v = budgeted budget (searchedCore (coreIn (now (core .entry))) (roomIn (now (memory .entry))) .outcome) in verdictOf (r .ending) (r .looks) (basisFound v) ≡ v) ⌝ }
+    ensures left { λ r. ⌜ rowsIn (now (list .exit)) ≡ over (basisFound (budgeted budget (searchedCore (coreIn (now (core .entry))) (roomIn (now (memory .entry))) .outcome))) (rowsIn (now (list .entry))) ⌝ }
+    ensures remembered { λ r. ⌜ now (memory .exit) ≡ over (memoryWords (knownWithin budget (searchedCore (coreIn (now (core .entry))) (roomIn (now (memory .entry))) .memory))) (now (memory .entry)) ⌝ }
 {
     let k = blocks::lesser(WIDTH, blocks::rows_in(core));
     if k <= 8 {
         let mut basis = [0u64; 72];
         let mut gram = [0u64; 72];
-        return searched(&mut basis, &mut gram, core, k, budget, list);
+        return searched(&mut basis, &mut gram, core, k, budget, memory, list);
     }
     if k <= 16 {
         let mut basis = [0u64; 272];
         let mut gram = [0u64; 272];
-        return searched(&mut basis, &mut gram, core, k, budget, list);
+        return searched(&mut basis, &mut gram, core, k, budget, memory, list);
     }
     if k <= 32 {
         let mut basis = [0u64; 1056];
         let mut gram = [0u64; 1056];
-        return searched(&mut basis, &mut gram, core, k, budget, list);
+        return searched(&mut basis, &mut gram, core, k, budget, memory, list);
     }
     let mut basis = [0u64; 4160];
     let mut gram = [0u64; 4160];
-    searched(&mut basis, &mut gram, core, k, budget, list)
+    searched(&mut basis, &mut gram, core, k, budget, memory, list)
 }

@@ -31,7 +31,7 @@ all-fit m rows a = true-all (λ v. ltb v (2 ^ m)) rows (All·map (λ v h. lt-ltb
 
 -- ---- rows compared
 
-rows-equal : (xs ys : List ℕ) → sameRows xs ys ≡ true → xs ≡ ys
+pub rows-equal : (xs ys : List ℕ) → sameRows xs ys ≡ true → xs ≡ ys
 rows-equal [] [] e = refl
 rows-equal [] (y ∷ ys) e = absurd (true≢false (sym e))
 rows-equal (x ∷ xs) [] e = absurd (true≢false (sym e))

@@ -4,3 +4,4 @@ pub mod Ends
 pub mod Replies
 pub mod Answered
 pub mod Outcomes
+pub mod Remembering

@@ -13,7 +13,7 @@ use Rattle.blocks.specs.Matrices.{times, All}
 use Rattle.blocks.specs.Words.{rowsOfWords}
 use Rattle.blocks.proofs.Values.{rows-count}
 use Rattle.symplectic.specs.Sizes.{maxQubits}
-use Rattle.symplectic.specs.Turns.{product}
+use Rattle.symplectic.specs.Turns.{product, symplectic}
 use Rattle.questions.specs.Replies.{Reply, refused, unlessRefused, actionQuestions, listQuestions}
 use Rattle.questions.proofs.Questions.{question-2, list-small, passed-size, passed-count, passed-rows, passed-symplectic, list-refused, list-known, reply-refused}
 use Rattle.residue.specs.Residue.{basis}
@@ -26,7 +26,11 @@ use Rattle.transvection_exact.specs.Minimal.{coreSearch, borderedReply, 
 use Rattle.transvection_exact.proofs.Least.{Least, least-of-search, found-shortest, bordered-shortest}
 use Rattle.transvection_exact.proofs.Ends.{Ends, early, beyond, unbordered, answered, Answer, answer, count-is, looks-are, taken-is, left-of, spent-of, of-spent}
 
--- ---- every call has one of the four ends
+-- the reply of a call whose search, without a budget, has the outcome o
+abbrev pub replyFor : ℕ → List ℕ → ℕ → List ℕ → Outcome → Reply
+replyFor n words budget out o =
+    let F = rowsOfWords n words in
+    unlessRefused (listQuestions n F (n + n + 1) (length out)) out (searchedReply n F (budgeted budget o) out)
 
 module _ (n : ℕ) (words : List ℕ) (budget : ℕ) (out : List ℕ) where
   abbrev pub rows : List ℕ
@@ -35,8 +39,7 @@ module _ (n : ℕ) (words : List ℕ) (budget : ℕ) (out : List ℕ) where
   abbrev pub asked : ℕ
   asked = listQuestions n rows (n + n + 1) (length out)
 
-  abbrev pub wanted : ℕ
-  wanted = looksOf (coreSearch n rows)
+  -- ---- what is known once the questions 1 to 5 are passed
 
   module _ (passed : asked ≡ 0) where
     known : (actionQuestions n rows ≡ 0) × (n + n + 1 ≤ length out)
@@ -48,6 +51,11 @@ module _ (n : ℕ) (words : List ℕ) (budget : ℕ) (out : List ℕ) where
     bounded : All (λ f. f < 2 ^ (n + n)) rows
     bounded = passed-rows n rows (known .0)
 
+    pub passed-least : (o : Outcome) → (length rows ≡ n + n → All (λ f. f < 2 ^ (n + n)) rows → symplectic n rows ≡ true → Least n rows o) → Least n rows o
+    passed-least o h = h size bounded (passed-symplectic n rows (known .0))
+
+    -- ---- every call has one of the four ends
+
     by-border : (o : Option (List ℕ)) (looks : ℕ) → borderedList n rows ≡ o → Passed n rows o → NoneShorter n rows (suc (length (basis n rows)))
         → looks ≤ budget → Ends n rows asked budget looks out (borderedReply n o looks out)
     by-border none looks e p h l = unbordered passed l e refl
@@ -58,70 +66,86 @@ module _ (n : ℕ) (words : List ℕ) (budget : ℕ) (out : List ℕ) where
         answered (map (λ p. times p (basis n rows)) ps) passed l (passed-size n rows (known .0)) (known .1) (found-shortest n rows size bounded ps looks h) refl
     by-search (failed looks) h l = by-border (borderedList n rows) looks refl (bordered-passed n rows) h l
 
-    by-budget : (b : Bool) → leb wanted budget ≡ b → Ends n rows asked budget wanted out (searchedReply n rows (endedIf b (coreSearch n rows) budget) out)
-    by-budget true e =
-        by-search (coreSearch n rows) (least-of-search n rows size bounded (passed-symplectic n rows (known .0))) (leb-true wanted budget e)
-    by-budget false e = beyond passed (leb-false wanted budget e) refl
+    by-budget : (o : Outcome) → Least n rows o → (b : Bool) → leb (looksOf o) budget ≡ b
+        → Ends n rows asked budget (looksOf o) out (searchedReply n rows (endedIf b o budget) out)
+    by-budget o h true e = by-search o h (leb-true (looksOf o) budget e)
+    by-budget o h false e = beyond passed (leb-false (looksOf o) budget e) refl
 
-  pub minimal-ends : Ends n rows asked budget wanted out (minimalReply n words budget out)
+  -- an outcome that says of all lists what is to be said
+  module _ (o : Outcome) (least : asked ≡ 0 → Least n rows o) where
+    abbrev pub wanted : ℕ
+    wanted = looksOf o
+
+    abbrev pub reply : Reply
+    reply = replyFor n words budget out o
+
+    reply-ends : Ends n rows asked budget wanted out reply
+    reply-ends = go asked refl (list-small n rows (n + n + 1) (length out))
+      where
+        go : (k : ℕ) → asked ≡ k → k ≤ 5 → Ends n rows asked budget wanted out (unlessRefused k out (searchedReply n rows (budgeted budget o) out))
+        go zero e l =
+            subst (λ v. Ends n rows asked budget wanted out (searchedReply n rows v out)) (sym (budgeted-is budget o)) (by-budget e o (least e) (leb wanted budget) refl)
+        go (suc k) e l = early k e l refl
+
+    -- ---- what the reply says
+
+    module _ (z : reply .figures .number ≡ 0) where
+      abbrev the : Answer n rows asked budget wanted out reply
+      the = answer n rows asked budget wanted out reply reply-ends z
+
+      is-the-list : take (reply .figures .count) (rowsOfWords n (reply .words)) ≡ the .list
+      is-the-list = taken-is n rows asked budget wanted out reply the
+
+      count-the : reply .figures .count ≡ length (the .list)
+      count-the = count-is n rows asked budget wanted out reply the
+
+      -- the listed words, from the start of the output, multiplied out
+      pub answered-product : product n (take (reply .figures .count) (rowsOfWords n (reply .words))) ≡ rows
+      answered-product = ap (product n) is-the-list ∙ the .shortest .replays
+
+      pub answered-shortest : NoneShorter n rows (reply .figures .count)
+      answered-shortest = subst (NoneShorter n rows) (sym count-the) (the .shortest .least)
+
+      answered-fits : All (λ v. v < 2 ^ (n + n)) (take (reply .figures .count) (rowsOfWords n (reply .words)))
+      answered-fits = subst (All (λ v. v < 2 ^ (n + n))) (sym is-the-list) (the .shortest .fits)
+
+      pub answered-looks : reply .figures .looks ≡ wanted
+      answered-looks = looks-are n rows asked budget wanted out reply the
+
+    pub reply-left : (reply .figures .number ≡ 0 → ⊥) → (reply .words ≡ out) × (reply .figures .count ≡ 0)
+    reply-left = left-of n rows asked budget wanted out reply reply-ends
+
+    -- 6 just where the questions before are passed and the search takes a look beyond the budget
+    pub spent-only : reply .figures .number ≡ 6 → (asked ≡ 0) × (budget < wanted)
+    spent-only z = let s = spent-of n rows asked budget wanted out reply reply-ends z in (s .0, s .1)
+
+    pub spent-where : asked ≡ 0 → budget < wanted → reply .figures .number ≡ 6
+    spent-where = of-spent n rows asked budget wanted out reply reply-ends
+
+    pub spent-looks : reply .figures .number ≡ 6 → reply .figures .looks ≡ budget
+    spent-looks z = spent-of n rows asked budget wanted out reply reply-ends z .2
+
+    -- the listed vectors have 2n columns
+    pub reply-fits : All (λ v. v < 2 ^ (n + n)) (take (reply .figures .count) (rowsOfWords n (reply .words)))
+    reply-fits = go (reply .figures .number) refl
+      where
+        go : (k : ℕ) → reply .figures .number ≡ k → All (λ v. v < 2 ^ (n + n)) (take (reply .figures .count) (rowsOfWords n (reply .words)))
+        go zero z = answered-fits z
+        go (suc k) z =
+            subst (λ (c : ℕ). All (λ v. v < 2 ^ (n + n)) (take c (rowsOfWords n (reply .words)))) (sym (reply-left (λ e. omega arith) .1)) tt
+
+  -- ---- of document 01's search
+
+  pub core-least : asked ≡ 0 → Least n rows (coreSearch n rows)
+  core-least e = passed-least e (coreSearch n rows) (least-of-search n rows)
+
+  pub refused-left : (minimalReply n words budget out .figures .number ≡ 0 → ⊥) → (minimalReply n words budget out .words ≡ out) × (minimalReply n words budget out .figures .count ≡ 0)
   unfolding minimalReply
-  minimal-ends = go asked refl (list-small n rows (n + n + 1) (length out))
-    where
-      go : (k : ℕ) → asked ≡ k → k ≤ 5
-          → Ends n rows asked budget wanted out (unlessRefused k out (searchedReply n rows (budgeted budget (coreSearch n rows)) out))
-      go zero e l =
-          subst (λ v. Ends n rows asked budget wanted out (searchedReply n rows v out)) (sym (budgeted-is budget (coreSearch n rows))) (by-budget e (leb wanted budget) refl)
-      go (suc k) e l = early k e l refl
+  refused-left = reply-left (coreSearch n rows) core-least
 
-  -- ---- what the reply says
-
-  abbrev pub reply : Reply
-  reply = minimalReply n words budget out
-
-  module _ (z : reply .figures .number ≡ 0) where
-    abbrev the : Answer n rows asked budget wanted out reply
-    the = answer n rows asked budget wanted out reply minimal-ends z
-
-    is-the-list : take (reply .figures .count) (rowsOfWords n (reply .words)) ≡ the .list
-    is-the-list = taken-is n rows asked budget wanted out reply the
-
-    count-the : reply .figures .count ≡ length (the .list)
-    count-the = count-is n rows asked budget wanted out reply the
-
-    -- the listed words, from the start of the output, multiplied out
-    pub answered-product : product n (take (reply .figures .count) (rowsOfWords n (reply .words))) ≡ rows
-    answered-product = ap (product n) is-the-list ∙ the .shortest .replays
-
-    pub answered-shortest : NoneShorter n rows (reply .figures .count)
-    answered-shortest = subst (NoneShorter n rows) (sym count-the) (the .shortest .least)
-
-    pub answered-fits : All (λ v. v < 2 ^ (n + n)) (take (reply .figures .count) (rowsOfWords n (reply .words)))
-    answered-fits = subst (All (λ v. v < 2 ^ (n + n))) (sym is-the-list) (the .shortest .fits)
-
-    pub answered-looks : reply .figures .looks ≡ wanted
-    answered-looks = looks-are n rows asked budget wanted out reply the
-
-  pub refused-left : (reply .figures .number ≡ 0 → ⊥) → (reply .words ≡ out) × (reply .figures .count ≡ 0)
-  refused-left = left-of n rows asked budget wanted out reply minimal-ends
-
-  -- 6 just where the questions before are passed and the search takes a look beyond the budget
-  pub spent-only : reply .figures .number ≡ 6 → (asked ≡ 0) × (budget < wanted)
-  spent-only z = let s = spent-of n rows asked budget wanted out reply minimal-ends z in (s .0, s .1)
-
-  pub spent-where : asked ≡ 0 → budget < wanted → reply .figures .number ≡ 6
-  spent-where = of-spent n rows asked budget wanted out reply minimal-ends
-
-  pub spent-looks : reply .figures .number ≡ 6 → reply .figures .looks ≡ budget
-  spent-looks z = spent-of n rows asked budget wanted out reply minimal-ends z .2
-
-  -- the listed vectors have 2n columns
-  pub minimal-fits : All (λ v. v < 2 ^ (n + n)) (take (reply .figures .count) (rowsOfWords n (reply .words)))
-  minimal-fits = go (reply .figures .number) refl
-    where
-      go : (k : ℕ) → reply .figures .number ≡ k → All (λ v. v < 2 ^ (n + n)) (take (reply .figures .count) (rowsOfWords n (reply .words)))
-      go zero z = answered-fits z
-      go (suc k) z =
-          subst (λ (c : ℕ). All (λ v. v < 2 ^ (n + n)) (take c (rowsOfWords n (reply .words)))) (sym (refused-left (λ e. omega arith) .1)) tt
+  pub minimal-fits : All (λ v. v < 2 ^ (n + n)) (take (minimalReply n words budget out .figures .count) (rowsOfWords n (minimalReply n words budget out .words)))
+  unfolding minimalReply
+  minimal-fits = reply-fits (coreSearch n rows) core-least
 
   -- another count of rows is refused
   pub minimal-miscounted : n ≤ maxQubits → (length words ≡ n + n → ⊥) → minimalReply n words budget out ≡ refused 2 0 out

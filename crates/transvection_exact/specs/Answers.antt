@@ -2,16 +2,17 @@
 -- Assumes nothing.
 use mathlib.Core.Path.{_≡_}
 use mathlib.Core.List.{List}
-use Prim.Native.Nat.{ℕ, _+_, _<_}
+use Prim.Native.Nat.{ℕ, _+_, _≤_, _<_}
 use lib.ListN.{length}
 use Rattle.blocks.specs.Words.{rowsOfWords}
 use Rattle.questions.specs.declared.Figures.{Figures}
-use Rattle.questions.specs.Replies.{listQuestions}
+use Rattle.questions.specs.Replies.{Reply, listQuestions}
 use Rattle.triangular.specs.Search.{looksOf}
 use Rattle.transvection_exact.specs.declared.Minimal.{Minimal}
 use Rattle.transvection_exact.specs.declared.Minimal.the-variants.{Listed, TooManyQubits, WrongRowCount, RowTooWide, NotSymplectic, OutputTooShort, Spent, NotBordered}
 use Rattle.transvection_exact.specs.NoneShorter.{NoneShorter}
-use Rattle.transvection_exact.specs.Minimal.{coreSearch}
+use Rattle.memory.specs.Entries.{entrySize}
+use Rattle.transvection_exact.specs.Minimal.{coreSearch, coreSearchWith}
 
 -- the number of the question that was answered no, 0 for an answer; the count of the list; the looks of the search. Open to users
 abbrev pub figuresOf : Minimal → Figures
@@ -28,17 +29,38 @@ figuresOf (NotBordered looks) = record { number = 7; count = 0; looks = looks }
 abbrev pub Shortest : ℕ → List ℕ → Figures → Type 0
 Shortest n rows t = t .number ≡ 0 → NoneShorter n (rowsOfWords n rows) (t .count)
 
--- questions 1 to 5, with 2n + 1 output words, are passed, and the search takes a look beyond the budget
-abbrev pub Beyond : ℕ → List ℕ → ℕ → List ℕ → Type 0
-Beyond n rows budget out =
+-- questions 1 to 5, with 2n + 1 output words, are passed, and a search that takes so many looks takes one beyond the budget
+abbrev pub Beyond : ℕ → ℕ → List ℕ → ℕ → List ℕ → Type 0
+Beyond wanted n rows budget out =
     let F = rowsOfWords n rows in
-    (listQuestions n F (n + n + 1) (length out) ≡ 0) × (budget < looksOf (coreSearch n F))
+    (listQuestions n F (n + n + 1) (length out) ≡ 0) × (budget < wanted)
 
 -- the budget is exact: 6 just where the search takes a look beyond it, and then every look was taken;
 -- an answer has the looks of the search without a budget
-abbrev pub Exact : ℕ → List ℕ → ℕ → List ℕ → Figures → Type 0
-Exact n rows budget out t =
-    (t .number ≡ 6 → Beyond n rows budget out)
-    × ((Beyond n rows budget out → t .number ≡ 6)
-    × ((t .number ≡ 0 → t .looks ≡ looksOf (coreSearch n (rowsOfWords n rows)))
+abbrev pub ExactFor : ℕ → ℕ → List ℕ → ℕ → List ℕ → Figures → Type 0
+ExactFor wanted n rows budget out t =
+    (t .number ≡ 6 → Beyond wanted n rows budget out)
+    × ((Beyond wanted n rows budget out → t .number ≡ 6)
+    × ((t .number ≡ 0 → t .looks ≡ wanted)
     × (t .number ≡ 6 → t .looks ≡ budget)))
+
+-- of document 01's search
+abbrev pub Exact : ℕ → List ℕ → ℕ → List ℕ → Figures → Type 0
+Exact n rows budget out t = ExactFor (looksOf (coreSearch n (rowsOfWords n rows))) n rows budget out t
+
+-- ---- with a lent memory
+
+-- of the search with room for so many entries
+abbrev pub ExactWith : ℕ → ℕ → List ℕ → ℕ → List ℕ → Figures → Type 0
+ExactWith room n rows budget out t = ExactFor (looksOf (coreSearchWith n (rowsOfWords n rows) room .outcome)) n rows budget out t
+
+-- beside document 01's call, which replies `plain`: spent only where that is spent; wherever that is not, the number, the count and the output words are its own; never more looks
+abbrev pub AsWithout : Reply → List ℕ → Figures → Type 0
+AsWithout plain left t =
+    (t .number ≡ 6 → plain .figures .number ≡ 6)
+    × (((plain .figures .number ≡ 6 → ⊥) → (t .number ≡ plain .figures .number) × ((t .count ≡ plain .figures .count) × (left ≡ plain .words)))
+    × (t .looks ≤ plain .figures .looks))
+
+-- with fewer words than an entry takes it is document 01's call, and the memory is as it was
+abbrev pub Plainly : Reply → List ℕ → List ℕ → List ℕ → Figures → Type 0
+Plainly plain memory memoryAfter left t = length memory < entrySize → (t ≡ plain .figures) × ((left ≡ plain .words) × (memoryAfter ≡ memory))

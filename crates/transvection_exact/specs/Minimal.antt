@@ -1,14 +1,16 @@
--- The minimal list (`minimal_decomposition`): the search's list of r vectors, else the bordered list of r + 1.
+-- The minimal list (`minimal_decomposition`): the search's list of r vectors, else the bordered list of r + 1. Also with a lent memory (document 02, item 6).
 -- Assumes nothing.
-use mathlib.Core.List.{List, map}
+use mathlib.Core.List.{List, [], map}
 use mathlib.Core.Option.{Option, none, some}
-use Prim.Native.Nat.{ℕ, _+_}
+use Prim.Native.Nat.{ℕ, zero, suc, _+_}
 use lib.ListN.{length}
 use Rattle.blocks.specs.Matrices.{times, units}
-use Rattle.blocks.specs.Words.{rowsOfWords}
+use Rattle.blocks.specs.Words.{rowsOfWords, over}
 use Rattle.questions.specs.Replies.{Reply, refused, listed, unlessRefused, listQuestions}
 use Rattle.residue.specs.Residue.{basis, core, form}
 use Rattle.triangular.specs.Search.{Outcome, found, failed, search, Verdict, ended, spent, budgeted}
+use Rattle.triangular.specs.Memory.{Remembered, searchWith, knownWithin}
+use Rattle.memory.specs.Entries.{memoryWords, roomIn}
 use Rattle.bordered.specs.Checks.{borderedList}
 
 -- the search on the core of an action, with no budget, begun from unit vectors
@@ -35,3 +37,25 @@ unfoldable pub minimalReply : ℕ → List ℕ → ℕ → List ℕ → Reply
 minimalReply n words budget out =
     let F = rowsOfWords n words in
     unlessRefused (listQuestions n F (n + n + 1) (length out)) out (searchedReply n F (budgeted budget (coreSearch n F)) out)
+
+-- ---- with a lent memory
+
+-- the search with room for so many entries
+unfoldable pub coreSearchWith : ℕ → List ℕ → ℕ → Remembered
+coreSearchWith n F room = let r = length (basis n F) in searchWith (form (core n F)) r room r (units r) 0 []
+
+-- the same questions, 6 and 7 of this search
+unfoldable pub rememberingReply : ℕ → List ℕ → ℕ → List ℕ → List ℕ → Reply
+rememberingReply n words budget memory out =
+    let F = rowsOfWords n words in
+    unlessRefused (listQuestions n F (n + n + 1) (length out)) out (searchedReply n F (budgeted budget (coreSearchWith n F (roomIn memory) .outcome)) out)
+
+abbrev pub unlessAsked : ℕ → List ℕ → List ℕ → List ℕ
+unlessAsked zero kept entered = entered
+unlessAsked (suc k) kept entered = kept
+
+-- the lent memory after the call: untouched on a refusal by 1 to 5; else the entries of this call in order, and the words beyond them unchanged
+unfoldable pub memoryLeft : ℕ → List ℕ → ℕ → List ℕ → List ℕ → List ℕ
+memoryLeft n words budget memory out =
+    let F = rowsOfWords n words in
+    unlessAsked (listQuestions n F (n + n + 1) (length out)) memory (over (memoryWords (knownWithin budget (coreSearchWith n F (roomIn memory) .memory))) memory)

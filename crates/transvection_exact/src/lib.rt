@@ -10,13 +10,15 @@ use symplectic::MOST_ROWS;
 use triangular::Ending;
 ghost use mathlib.Core.Path.{_≡_};
 ghost use Rattle.blocks.specs.Matrices.{matmul};
-ghost use Rattle.blocks.specs.Words.{rowsIn};
+ghost use Rattle.blocks.specs.Words.{rowsIn, over};
 ghost use Rattle.actions.specs.Actions.{qubits, matrix};
 ghost use Rattle.questions.specs.Replies.{listed, Replays};
 ghost use Rattle.residue.specs.Residue.{basis as basisOf, core as coreOf};
 ghost use Rattle.triangular.specs.Search.{budgeted};
-ghost use Rattle.transvection_exact.specs.Minimal.{coreSearch, searchedReply, minimalReply};
-ghost use Rattle.transvection_exact.specs.Answers.{figuresOf, Shortest, Exact};
+ghost use Rattle.triangular.specs.Memory.{knownWithin};
+ghost use Rattle.memory.specs.Entries.{memoryWords, roomIn};
+ghost use Rattle.transvection_exact.specs.Minimal.{searchedReply, minimalReply, coreSearchWith, rememberingReply, memoryLeft};
+ghost use Rattle.transvection_exact.specs.Answers.{figuresOf, Shortest, Exact, ExactWith, AsWithout, Plainly};
 
 // What the call answers: how many vectors it listed after how many looks, or the first question that is answered no.
 pub enum Minimal {
@@ -103,14 +105,22 @@ fn multiplied(n: u64, list: &[u64], basis: &[u64], looks: u64, out: &mut [u64]) 
 }
 
 // Questions 6 and 7, from the basis of the residue and the core: the list of the search, else the bordered list.
-fn from_core(a: Action, basis: &[u64], core: &[u64], budget: u64, out: &mut [u64]) -> Minimal
+fn from_core(
+    a: Action,
+    basis: &[u64],
+    core: &[u64],
+    budget: u64,
+    memory: &mut [u64],
+    out: &mut [u64],
+) -> Minimal
     requires { ⌜ (rowsIn (now basis) ≡ basisOf (qubits a) (matrix a)) × (rowsIn (now core) ≡ coreOf (qubits a) (matrix a)) ⌝ }
-    ensures answered { λ r. ⌜ figuresOf r ≡ searchedReply (qubits a) (matrix a) (budgeted budget (coreSearch (qubits a) (matrix a))) (now (out .entry)) .figures ⌝ }
-    ensures left { λ r. ⌜ now (out .exit) ≡ searchedReply (qubits a) (matrix a) (budgeted budget (coreSearch (qubits a) (matrix a))) (now (out .entry)) .words ⌝ }
+    ensures answered { λ r. ⌜ figuresOf r ≡ searchedReply (qubits a) (matrix a) (budgeted budget (coreSearchWith (qubits a) (matrix a) (roomIn (now (memory .entry))) .outcome)) (now (out .entry)) .figures ⌝ }
+    ensures left { λ r. ⌜ now (out .exit) ≡ searchedReply (qubits a) (matrix a) (budgeted budget (coreSearchWith (qubits a) (matrix a) (roomIn (now (memory .entry))) .outcome)) (now (out .entry)) .words ⌝ }
+    ensures remembered { λ r. ⌜ now (memory .exit) ≡ over (memoryWords (knownWithin budget (coreSearchWith (qubits a) (matrix a) (roomIn (now (memory .entry))) .memory))) (now (memory .entry)) ⌝ }
 {
     let n = symplectic::capped(a.n) as u64;
     let mut list = [0u64; WIDTH];
-    let o = search::congruence_triangularize(core, budget, &mut list);
+    let o = search::congruence_triangularize(core, budget, memory, &mut list);
     let looks = o.looks;
     let ending = o.ending;
     match ending {
@@ -136,30 +146,36 @@ fn from_core(a: Action, basis: &[u64], core: &[u64], budget: u64, out: &mut [u64
 }
 
 // Questions 6 and 7 of an action.
-fn searched(a: Action, budget: u64, out: &mut [u64]) -> Minimal
-    ensures answered { λ r. ⌜ figuresOf r ≡ searchedReply (qubits a) (matrix a) (budgeted budget (coreSearch (qubits a) (matrix a))) (now (out .entry)) .figures ⌝ }
-    ensures left { λ r. ⌜ now (out .exit) ≡ searchedReply (qubits a) (matrix a) (budgeted budget (coreSearch (qubits a) (matrix a))) (now (out .entry)) .words ⌝ }
+fn searched(a: Action, budget: u64, memory: &mut [u64], out: &mut [u64]) -> Minimal
+    ensures answered { λ r. ⌜ figuresOf r ≡ searchedReply (qubits a) (matrix a) (budgeted budget (coreSearchWith (qubits a) (matrix a) (roomIn (now (memory .entry))) .outcome)) (now (out .entry)) .figures ⌝ }
+    ensures left { λ r. ⌜ now (out .exit) ≡ searchedReply (qubits a) (matrix a) (budgeted budget (coreSearchWith (qubits a) (matrix a) (roomIn (now (memory .entry))) .outcome)) (now (out .entry)) .words ⌝ }
+    ensures remembered { λ r. ⌜ now (memory .exit) ≡ over (memoryWords (knownWithin budget (coreSearchWith (qubits a) (matrix a) (roomIn (now (memory .entry))) .memory))) (now (memory .entry)) ⌝ }
 {
     let mut basis = [0u64; MOST_ROWS];
     let mut core = [0u64; MOST_ROWS];
     let r = residue::residue_core(a, &mut basis, &mut core);
     let b = blocks::start(&basis, r);
     let c = blocks::start(&core, r);
-    from_core(a, &basis[..b], &core[..c], budget, out)
+    from_core(a, &basis[..b], &core[..c], budget, memory, out)
 }
 
-// A list of turns whose product is the lent action, and no list of it is shorter.
-pub fn clifford_to_transvections_minimal(
+// A list of turns whose product is the lent action, and no list of it is shorter. Spaces that the search finds to fail are entered into a
+// lent memory, and not searched again.
+pub fn clifford_to_transvections_minimal_remembering(
     n: u64,
     rows: &[u64],
     budget: u64,
+    memory: &mut [u64],
     out: &mut [u64],
 ) -> Minimal
-    ensures answered { λ r. ⌜ figuresOf r ≡ minimalReply n (now (rows .entry)) budget (now (out .entry)) .figures ⌝ }
-    ensures left { λ r. ⌜ now (out .exit) ≡ minimalReply n (now (rows .entry)) budget (now (out .entry)) .words ⌝ }
+    ensures answered { λ r. ⌜ figuresOf r ≡ rememberingReply n (now (rows .entry)) budget (now (memory .entry)) (now (out .entry)) .figures ⌝ }
+    ensures left { λ r. ⌜ now (out .exit) ≡ rememberingReply n (now (rows .entry)) budget (now (memory .entry)) (now (out .entry)) .words ⌝ }
+    ensures remembered { λ r. ⌜ now (memory .exit) ≡ memoryLeft n (now (rows .entry)) budget (now (memory .entry)) (now (out .entry)) ⌝ }
     ensures replays { λ r. ⌜ Replays n (now (rows .entry)) (now (out .exit)) (figuresOf r) ⌝ }
     ensures shortest { λ r. ⌜ Shortest n (now (rows .entry)) (figuresOf r) ⌝ }
-    ensures exact { λ r. ⌜ Exact n (now (rows .entry)) budget (now (out .entry)) (figuresOf r) ⌝ }
+    ensures exact { λ r. ⌜ ExactWith (roomIn (now (memory .entry))) n (now (rows .entry)) budget (now (out .entry)) (figuresOf r) ⌝ }
+    ensures as_without { λ r. ⌜ AsWithout (minimalReply n (now (rows .entry)) budget (now (out .entry))) (now (out .exit)) (figuresOf r) ⌝ }
+    ensures plainly { λ r. ⌜ Plainly (minimalReply n (now (rows .entry)) budget (now (out .entry))) (now (memory .entry)) (now (memory .exit)) (now (out .exit)) (figuresOf r) ⌝ }
 {
     let question = questions::action_questions(n, rows);
     match question {
@@ -181,5 +197,22 @@ pub fn clifford_to_transvections_minimal(
     if out.len() < wanted as usize {
         return Minimal::OutputTooShort;
     }
-    searched(actions::from_words(n, rows), budget, out)
+    searched(actions::from_words(n, rows), budget, memory, out)
+}
+
+// The same with no memory lent: document 01's call.
+pub fn clifford_to_transvections_minimal(
+    n: u64,
+    rows: &[u64],
+    budget: u64,
+    out: &mut [u64],
+) -> Minimal
+    ensures answered { λ r. ⌜ figuresOf r ≡ minimalReply n (now (rows .entry)) budget (now (out .entry)) .figures ⌝ }
+    ensures left { λ r. ⌜ now (out .exit) ≡ minimalReply n (now (rows .entry)) budget (now (out .entry)) .words ⌝ }
+    ensures replays { λ r. ⌜ Replays n (now (rows .entry)) (now (out .exit)) (figuresOf r) ⌝ }
+    ensures shortest { λ r. ⌜ Shortest n (now (rows .entry)) (figuresOf r) ⌝ }
+    ensures exact { λ r. ⌜ Exact n (now (rows .entry)) budget (now (out .entry)) (figuresOf r) ⌝ }
+{
+    let mut none = [0u64; 0];
+    clifford_to_transvections_minimal_remembering(n, rows, budget, &mut none, out)
 }

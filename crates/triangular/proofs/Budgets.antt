@@ -1,22 +1,26 @@
--- The search under a budget, as two functions that call each other take it: one tries a space, draw by draw, the other what one draw passes on; what is found is built on the way back.
+-- The search with a memory under a budget, as two functions that call each other take it: one tries a space, draw by draw, the other what one draw passes on.
 -- Assumes nothing.
 use mathlib.Core.Path.{_≡_, refl, sym, ap, ap₂, _∙_, subst}
 use mathlib.Core.Logic.{_⊎_, ⊎-elim}
 use mathlib.Core.Bool.{Bool, true, false, _&&_, and-eq-true-iff, and-true}
-use mathlib.Core.List.{List, [], _∷_}
+use mathlib.Core.List.{List, [], _∷_, _++_, append-nil}
 use Prim.Native.Nat.{ℕ, zero, suc, _+_, _-_, _^_, _≤_, _<_}
-use native.Mathlib.Nat.{le-refl, not-suc-le-zero, lt-of-lt-of-le}
+use native.Mathlib.Nat.{le-trans, not-suc-le-zero, lt-of-lt-of-le}
 use native.Mathlib.Numerals.{add-one, sub-one}
 use native.Mathlib.Omega.{arith}
-use borrow.Author.Tests.{lt-leb, le-leb, leb-true, leb-false, ltb-true, lt-ltb}
+use borrow.Author.Tests.{lt-leb, le-leb, leb-true, leb-false}
 use lib.Dec.{leb, ltb}
-use Rattle.blocks.specs.Matrices.{times}
+use lib.ListN.{length}
+use Rattle.blocks.specs.Matrices.{times, All}
+use Rattle.blocks.proofs.All.{All·map, All·append}
 use Rattle.triangular.specs.declared.Ending.{Ending}
 use Rattle.triangular.specs.declared.Ending.the-variants.{Found, Failed, Spent}
 use Rattle.triangular.specs.Spaces.{complement, isAlternating}
-use Rattle.triangular.specs.Search.{Outcome, found, failed, unlessAlternating, afterRest, draw, draws, search, looksOf, Verdict, ended, spent, endedIf, budgeted}
+use Rattle.triangular.specs.Search.{Outcome, found, failed, looksOf, Verdict, ended, spent, endedIf, budgeted}
+use Rattle.triangular.specs.Memory.{Entry, reducedBasis, holds, enterIf, enter, Remembered, unlessHeld, unlessAlternates, noted, afterRestWith, drawWith, drawsWith, searchWith, keepIf, knownWithin}
 use Rattle.triangular.specs.Readings.{verdictOf}
-use Rattle.triangular.proofs.Looks.{Up, after-up, draw-up, draws-up, search-up}
+use Rattle.triangular.proofs.Entries.{Stamped, known-all, known-past, stamped-on}
+use Rattle.triangular.proofs.Grows.{Grown, Grows, after-grows, noted-after, draw-grows, draws-grow, search-grows}
 
 -- ---- the verdict
 
@@ -63,160 +67,219 @@ module _ (v : Ending) (k : ℕ) (l : List ℕ) where
   unfolding verdictOf
   says-spent e = ap (λ x. verdictOf x k l) e
 
--- an outcome, and where it failed what comes next
-abbrev orNext : (ℕ → Outcome) → Outcome → Outcome
-orNext next (found ps looks) = found ps looks
-orNext next (failed looks) = next looks
+-- ---- what is to be told: a verdict and a memory, of a search cut at the budget
 
-module _ (budget : ℕ) (next : ℕ → Outcome) (out : Outcome) where
-  or-found : (l : List ℕ) (k : ℕ) → ended (found l k) ≡ budgeted budget out → ended (found l k) ≡ budgeted budget (orNext next out)
-  or-found l k e = let f = of-ended budget out (found l k) e in e ∙ ap (budgeted budget) (sym (f .0) ∙ ap (orNext next) (f .0))
+abbrev pub Cut : ℕ → Remembered → Verdict → List Entry → Type 0
+Cut budget r A K = (budgeted budget (r .outcome) ≡ A) × (knownWithin budget (r .memory) ≡ K)
 
-  or-failed : (k : ℕ) → ended (failed k) ≡ budgeted budget out → budgeted budget (next k) ≡ budgeted budget (orNext next out)
-  or-failed k e = ap (λ o. budgeted budget (orNext next o)) (of-ended budget out (failed k) e .0)
+-- told of a search
+abbrev pub Told : ℕ → Remembered → Verdict → List Entry → Type 0
+Told budget r A N = (A ≡ budgeted budget (r .outcome)) × (N ≡ knownWithin budget (r .memory))
 
-  or-spent : Up next → (k : ℕ) → spent k ≡ budgeted budget out → spent k ≡ budgeted budget (orNext next out)
-  or-spent u k e = let f = of-spent budget out k e in ap spent (f .0) ∙ sym (spends budget (orNext next out) (lt-of-lt-of-le (f .1) (grows out)))
-    where
-      grows : (o : Outcome) → looksOf o ≤ looksOf (orNext next o)
-      grows (found ps n) = le-refl n
-      grows (failed n) = u n
+module _ (budget : ℕ) where
+  -- a search that ended
+  tells-ended : (o : Outcome) (M : List Entry) → looksOf o ≤ budget → Stamped (looksOf o) M → Told budget (record { outcome = o; memory = M }) (ended o) M
+  tells-ended o M h s = (sym (ends budget o h), sym (known-all budget M (All·map (λ e k. le-trans k h) M s)))
 
--- ---- one draw: what the search of the rest came to, and p before it
-
-module _ (budget p : ℕ) (out : Outcome) where
-  rest-found : (l : List ℕ) (k : ℕ) → ended (found l k) ≡ budgeted budget out → ended (found (p ∷ l) k) ≡ budgeted budget (afterRest p failed out)
-  rest-found l k e =
-      let f = of-ended budget out (found l k) e in
-      sym (ends budget (found (p ∷ l) k) (subst (λ o. looksOf o ≤ budget) (sym (f .0)) (f .1))) ∙ ap (λ o. budgeted budget (afterRest p failed o)) (f .0)
-
-  module _ (v : Ending) (k : ℕ) (l : List ℕ) (ens : verdictOf v k l ≡ budgeted budget out) where
-    rest-failed : v ≡ Failed → verdictOf v k l ≡ budgeted budget (afterRest p failed out)
-    rest-failed is =
-        let f = of-ended budget out (failed k) (sym (says-failed v k l is) ∙ ens) in ens ∙ ap (budgeted budget) (sym (f .0) ∙ ap (afterRest p failed) (f .0))
-
-    rest-spent : v ≡ Spent → verdictOf v k l ≡ budgeted budget (afterRest p failed out)
-    rest-spent is =
-        let e = says-spent v k l is in
-        let f = of-spent budget out k (sym e ∙ ens) in
-        e ∙ ap spent (f .0) ∙ sym (spends budget (afterRest p failed out) (lt-of-lt-of-le (f .1) (after-up p failed le-refl out)))
-
-  -- p stands before what was found
-  pub drawn-before : (v : Ending) (k : ℕ) (l : List ℕ) → verdictOf v k l ≡ budgeted budget out → verdictOf v k (p ∷ l) ≡ budgeted budget (afterRest p failed out)
-  unfolding verdictOf
-  drawn-before Found k l e = rest-found l k e
-  drawn-before Failed k l e = rest-failed Failed k l e refl
-  drawn-before Spent k l e = rest-spent Spent k l e refl
-
-  -- nothing was found
-  pub drawn-failed : (k : ℕ) → ended (failed k) ≡ budgeted budget out → ended (failed k) ≡ budgeted budget (afterRest p failed out)
-  unfolding verdictOf
-  drawn-failed k e = drawn-before Failed k [] e
+  -- spent already: what comes next changes nothing
+  tells-spent : (o o' : Outcome) (N N' : List Entry) → budget < looksOf o → Grown (looksOf o) N o' N'
+      → (spent budget ≡ budgeted budget o') × (knownWithin budget N ≡ knownWithin budget N')
+  tells-spent o o' N N' h g = (sym (spends budget o' (lt-of-lt-of-le h (g .more))), sym (known-past budget (looksOf o) N o' N' h g))
 
 -- ---- a space
 
-space-step : (E : ℕ → ℕ → Bool) (bs : List ℕ) (looks d : ℕ) → 0 < d
-    → search E d bs looks ≡ unlessAlternating (isAlternating E bs) (draws E (search E (d - 1)) bs (2 ^ d - 1) 1) looks
-unfolding search
-space-step E bs looks zero h = absurd (not-suc-le-zero h)
-space-step E bs looks (suc d) h =
-    ap (λ k. unlessAlternating (isAlternating E bs) (draws E (search E k) bs (2 ^ suc d - 1) 1) looks) (sym (sub-one (suc d)))
+space-step : (E : ℕ → ℕ → Bool) (m room looks : ℕ) (bs : List ℕ) (M : List Entry) (d : ℕ) → 0 < d
+    → searchWith E m room d bs looks M ≡ unlessHeld (holds d (reducedBasis m bs) M)
+    (λ n N. let r = unlessAlternates (isAlternating E bs) (drawsWith E m room (searchWith E m room (d - 1)) bs (2 ^ d - 1) 1) n N in noted room d (reducedBasis m bs) (r .outcome) (r .memory)) looks M
+unfolding searchWith
+space-step E m room looks bs M zero h = absurd (not-suc-le-zero h)
+space-step E m room looks bs M (suc d) h =
+    ap (λ k. unlessHeld (holds (suc d) (reducedBasis m bs) M)
+    (λ n N. let r = unlessAlternates (isAlternating E bs) (drawsWith E m room (searchWith E m room k) bs (2 ^ suc d - 1) 1) n N in noted room (suc d) (reducedBasis m bs) (r .outcome) (r .memory)) looks M) (sym (sub-one (suc d)))
 
-module _ (E : ℕ → ℕ → Bool) (budget looks : ℕ) (bs : List ℕ) (d : ℕ) where
-  pub space-empty : d ≡ 0 → looks ≤ budget → ended (found [] looks) ≡ budgeted budget (search E d bs looks)
-  unfolding search
-  space-empty e h = sym (ends budget (found [] looks) h) ∙ ap (λ n. budgeted budget (search E n bs looks)) (sym e)
+-- an entry that is made now is as old as the looks
+entered-stamped : (room looks : ℕ) (e : Entry) (M : List Entry) → e .looks ≡ looks → Stamped looks M → Stamped looks (enter room e M)
+unfolding enter
+entered-stamped room looks e M is s = go (ltb (length M) room)
+  where
+    go : (b : Bool) → Stamped looks (enterIf b e M)
+    go true = All·append (λ e. e .looks ≤ looks) M (e ∷ []) s (omega (arith, is), tt)
+    go false = s
 
-  pub space-alternating : (isAlternating E bs && ltb 0 d) ≡ true → looks ≤ budget → ended (failed looks) ≡ budgeted budget (search E d bs looks)
-  space-alternating a h =
-      let k = and-eq-true-iff (isAlternating E bs) (ltb 0 d) .0 a in
-      sym (ends budget (failed looks) h)
-      ∙ ap (λ b. budgeted budget (unlessAlternating b (draws E (search E (d - 1)) bs (2 ^ d - 1) 1) looks)) (sym (k .0))
-      ∙ ap (budgeted budget) (sym (space-step E bs looks d (ltb-true 0 d (k .1))))
+module _ (E : ℕ → ℕ → Bool) (m room budget looks : ℕ) (bs : List ℕ) (M : List Entry) (s : Stamped looks M) (h : looks ≤ budget) where
+  pub space-empty : (d : ℕ) → d ≡ 0 → Told budget (searchWith E m room d bs looks M) (ended (found [] looks)) M
+  unfolding searchWith
+  space-empty d e = subst (λ n. Told budget (searchWith E m room n bs looks M) (ended (found [] looks)) M) (sym e) (tells-ended budget (found [] looks) M h s)
 
-  -- the loop begins
-  pub space-begun : (last c : ℕ) → last ≡ 2 ^ d - 1 → c ≡ 0 → 0 < d → (isAlternating E bs && ltb 0 d) ≡ false
-      → budgeted budget (draws E (search E (d - 1)) bs (last - c) (c + 1) looks) ≡ budgeted budget (search E d bs looks)
-  space-begun last c e z p a =
-      let f : last - c ≡ 2 ^ d - 1 = omega arith in
-      let g : c + 1 ≡ 1 = omega arith in
-      let b : isAlternating E bs ≡ false = sym (and-true (isAlternating E bs)) ∙ ap (λ t. isAlternating E bs && t) (sym (lt-ltb 0 d p)) ∙ a in
-      ap (budgeted budget) (
-      ap₂ (λ n x. draws E (search E (d - 1)) bs n x looks) f g
-      ∙ ap (λ b. unlessAlternating b (draws E (search E (d - 1)) bs (2 ^ d - 1) 1) looks) (sym b) ∙ sym (space-step E bs looks d p)
-      )
+  module _ (d : ℕ) (some : 0 < d) where
+    abbrev all : ℕ → List Entry → Remembered
+    all = drawsWith E m room (searchWith E m room (d - 1)) bs (2 ^ d - 1) 1
 
--- ---- its draws: c of them are behind the loop, and A is the verdict to be given
+    abbrev note : Outcome → List Entry → Remembered
+    note = noted room d (reducedBasis m bs)
 
-taken-is : (p : ℕ) (next : ℕ → Outcome) (out : Outcome) → afterRest p next out ≡ orNext next (afterRest p failed out)
-taken-is p next (found ps n) = refl
-taken-is p next (failed n) = refl
+    abbrev asked : Bool → Bool → Remembered
+    asked a b = unlessHeld a (λ n N. let r = unlessAlternates b all n N in note (r .outcome) (r .memory)) looks M
 
-module _ (E : ℕ → ℕ → Bool) (budget looks : ℕ) (bs : List ℕ) (d last c : ℕ) (A : Verdict)
-    (inv : budgeted budget (draws E (search E d) bs (last - c) (c + 1) looks) ≡ A) where
+    answered : (a b : Bool) → holds d (reducedBasis m bs) M ≡ a → isAlternating E bs ≡ b → searchWith E m room d bs looks M ≡ asked a b
+    answered a b e f = space-step E m room looks bs M d some ∙ ap₂ asked e f
+
+    pub space-held : holds d (reducedBasis m bs) M ≡ true → Told budget (searchWith E m room d bs looks M) (ended (failed looks)) M
+    space-held e = subst (λ r. Told budget r (ended (failed looks)) M) (sym (answered true (isAlternating E bs) e refl)) (tells-ended budget (failed looks) M h s)
+
+    module _ (unheld : holds d (reducedBasis m bs) M ≡ false) where
+      pub space-alternating : isAlternating E bs ≡ true
+          → Told budget (searchWith E m room d bs looks M) (ended (failed looks)) (enter room (record { dimension = d; basis = reducedBasis m bs; looks = looks }) M)
+      space-alternating a =
+          let e : Entry = record { dimension = d; basis = reducedBasis m bs; looks = looks } in
+          subst (λ r. Told budget r (ended (failed looks)) (enter room e M)) (sym (answered false true unheld a))
+          (tells-ended budget (failed looks) (enter room e M) h (entered-stamped room looks e M refl s))
+
+      module _ (open-is : isAlternating E bs ≡ false) (v : Ending) (k : ℕ) (l : List ℕ) (N : List Entry)
+          (told : Told budget (drawsWith E m room (searchWith E m room (d - 1)) bs (2 ^ d - 1) 1 looks M) (verdictOf v k l) N) where
+        abbrev w : Remembered
+        w = all looks M
+
+        grown : Grown looks M (w .outcome) (w .memory)
+        grown = draws-grow E m room (searchWith E m room (d - 1)) (search-grows E m room (d - 1)) bs (2 ^ d - 1) 1 looks M
+
+        by-note : (A : Verdict) (K : List Entry) → Told budget (note (w .outcome) (w .memory)) A K → Told budget (searchWith E m room d bs looks M) A K
+        by-note A K t = subst (λ r. Told budget r A K) (sym (answered false false unheld open-is)) t
+
+        -- found or spent: nothing is entered
+        pub open-found : v ≡ Found → Told budget (searchWith E m room d bs looks M) (verdictOf v k l) N
+        open-found is =
+            let f = of-ended budget (w .outcome) (found l k) (sym (says-found v k l is) ∙ told .0) in
+            by-note (verdictOf v k l) N (subst (λ o. Told budget (note o (w .memory)) (verdictOf v k l) N) (f .0)
+            (told .0 ∙ ap (budgeted budget) (sym (f .0)), told .1))
+
+        pub open-spent : v ≡ Spent → Told budget (searchWith E m room d bs looks M) (verdictOf v k l) N
+        open-spent is =
+            let e = says-spent v k l is in
+            let f = of-spent budget (w .outcome) k (sym e ∙ told .0) in
+            let r = note (w .outcome) (w .memory) in
+            let t = tells-spent budget (w .outcome) (r .outcome) (w .memory) (r .memory) (f .1) (noted-after room d (reducedBasis m bs) (w .outcome) (w .memory)) in
+            by-note (verdictOf v k l) N (e ∙ ap spent (f .0) ∙ t .0, told .1 ∙ t .1)
+
+        -- failed: it is entered now
+        pub open-failed : v ≡ Failed
+            → Told budget (searchWith E m room d bs looks M) (ended (failed k)) (enter room (record { dimension = d; basis = reducedBasis m bs; looks = k }) N)
+        open-failed is =
+            let f = of-ended budget (w .outcome) (failed k) (sym (says-failed v k l is) ∙ told .0) in
+            let old : Stamped k (w .memory) = subst (λ o. Stamped (looksOf o) (w .memory)) (sym (f .0)) (stamped-on looks M (w .outcome) (w .memory) s grown) in
+            let fits : k ≤ budget = subst (λ o. looksOf o ≤ budget) (sym (f .0)) (f .1) in
+            let same : N ≡ w .memory = told .1 ∙ known-all budget (w .memory) (All·map (λ e n. le-trans n fits) (w .memory) old) in
+            let e : Entry = record { dimension = d; basis = reducedBasis m bs; looks = k } in
+            subst (λ (L : List Entry). Told budget (searchWith E m room d bs looks M) (ended (failed k)) (enter room e L)) (sym same)
+            (by-note (ended (failed k)) (enter room e (w .memory)) (subst (λ o. Told budget (note o (w .memory)) (ended (failed k)) (enter room e (w .memory))) (f .0)
+            (tells-ended budget (failed k) (enter room e (w .memory)) fits (entered-stamped room k e (w .memory) refl old))))
+
+-- the loop begins
+pub space-begun : (E : ℕ → ℕ → Bool) (m room budget looks : ℕ) (bs : List ℕ) (M : List Entry) (d last c : ℕ) → last ≡ 2 ^ d - 1 → c ≡ 0
+    → let r = drawsWith E m room (searchWith E m room (d - 1)) bs (2 ^ d - 1) 1 looks M in
+    Cut budget (drawsWith E m room (searchWith E m room (d - 1)) bs (last - c) (c + 1) looks M) (budgeted budget (r .outcome)) (knownWithin budget (r .memory))
+space-begun E m room budget looks bs M d last c e z =
+    let f : last - c ≡ 2 ^ d - 1 = omega arith in
+    let g : c + 1 ≡ 1 = omega arith in
+    let same = ap₂ (λ n x. drawsWith E m room (searchWith E m room (d - 1)) bs n x looks M) f g in
+    (ap (λ (r : Remembered). budgeted budget (r .outcome)) same, ap (λ (r : Remembered). knownWithin budget (r .memory)) same)
+
+-- ---- its draws: c of them are behind the loop, and A and K are to be told
+
+module _ (E : ℕ → ℕ → Bool) (m room budget looks : ℕ) (bs : List ℕ) (d last c : ℕ) (M : List Entry) (A : Verdict) (K : List Entry) (s : Stamped looks M)
+    (inv : Cut budget (drawsWith E m room (searchWith E m room d) bs (last - c) (c + 1) looks M) A K) where
   -- no draw is left
-  pub at-end : last ≤ c → looks ≤ budget → ended (failed looks) ≡ A
-  unfolding draws
+  pub at-end : last ≤ c → looks ≤ budget → (ended (failed looks) ≡ A) × (M ≡ K)
+  unfolding drawsWith
   at-end h k =
       let e : last - c ≡ 0 = omega arith in
-      sym (ends budget (failed looks) k) ∙ ap (λ n. budgeted budget (draws E (search E d) bs n (c + 1) looks)) (sym e) ∙ inv
+      let same = ap (λ n. drawsWith E m room (searchWith E m room d) bs n (c + 1) looks M) (sym e) in
+      let t = tells-ended budget (failed looks) M k s in
+      (t .0 ∙ ap (λ (r : Remembered). budgeted budget (r .outcome)) same ∙ inv .0, t .1 ∙ ap (λ (r : Remembered). knownWithin budget (r .memory)) same ∙ inv .1)
 
   module _ (h : c < last) where
-    abbrev next : ℕ → Outcome
-    next = draws E (search E d) bs (last - (c + 1)) (c + 1 + 1)
+    abbrev next : ℕ → List Entry → Remembered
+    next = drawsWith E m room (searchWith E m room d) bs (last - (c + 1)) (c + 1 + 1)
 
-    next-up : Up next
-    next-up = draws-up E (search E d) (search-up E d) bs (last - (c + 1)) (c + 1 + 1)
+    next-grows : Grows next
+    next-grows = draws-grow E m room (searchWith E m room d) (search-grows E m room d) bs (last - (c + 1)) (c + 1 + 1)
 
-    abbrev one : ℕ → Outcome
-    one p = draw (E p p) p (search E d (complement (E p) bs)) next looks
+    abbrev one : ℕ → Remembered
+    one p = drawWith (E p p) p (searchWith E m room d (complement (E p) bs)) next looks M
 
-    step : (p : ℕ) → p ≡ times (c + 1) bs → budgeted budget (one p) ≡ A
-    unfolding draws
+    step : (p : ℕ) → p ≡ times (c + 1) bs → one p ≡ drawsWith E m room (searchWith E m room d) bs (last - c) (c + 1) looks M
+    unfolding drawsWith
     step p is =
         let e : last - c ≡ suc (last - (c + 1)) = omega arith in
-        ap (budgeted budget) (
-        ap one is ∙ ap (λ m. draw (E (times (c + 1) bs) (times (c + 1) bs)) (times (c + 1) bs) (search E d (complement (E (times (c + 1) bs)) bs)) (draws E (search E d) bs (last - (c + 1)) m) looks) (add-one (c + 1))
-        ∙ ap (λ n. draws E (search E d) bs n (c + 1) looks) (sym e)
-        ) ∙ inv
+        let q = times (c + 1) bs in
+        ap one is ∙ ap (λ n. drawWith (E q q) q (searchWith E m room d (complement (E q) bs)) (drawsWith E m room (searchWith E m room d) bs (last - (c + 1)) n) looks M) (add-one (c + 1))
+        ∙ ap (λ n. drawsWith E m room (searchWith E m room d) bs n (c + 1) looks M) (sym e)
+
+    -- what one draw gives is to be told
+    by-one : (p : ℕ) → p ≡ times (c + 1) bs → Cut budget (one p) A K
+    by-one p is =
+        let e = step p is in
+        (ap (λ (r : Remembered). budgeted budget (r .outcome)) e ∙ inv .0, ap (λ (r : Remembered). knownWithin budget (r .memory)) e ∙ inv .1)
 
     -- a draw is left, and no look
-    pub at-stop : looks ≡ budget → spent looks ≡ A
+    pub at-stop : looks ≡ budget → (spent looks ≡ A) × (M ≡ K)
     at-stop e =
         let p = times (c + 1) bs in
-        let u = draw-up (E p p) p (search E d (complement (E p) bs)) next (search-up E d (complement (E p) bs)) next-up looks in
-        ap spent e ∙ sym (spends budget (one p) (omega arith)) ∙ step p refl
+        let g = draw-grows (E p p) p (searchWith E m room d (complement (E p) bs)) next (search-grows E m room d (complement (E p) bs)) next-grows looks M in
+        let t = by-one p refl in
+        let past : budget < suc looks = omega arith in
+        let few : looks ≤ budget = omega arith in (
+          ap spent e ∙ sym (spends budget (one p .outcome) (lt-of-lt-of-le past (g .more))) ∙ t .0,
+          sym (known-past budget (suc looks) M (one p .outcome) (one p .memory) past g ∙ known-all budget M (All·map (λ e k. le-trans k few) M s)) ∙ t .1,
+        )
 
     module _ (p : ℕ) (is : p ≡ times (c + 1) bs) where
       -- not accepted: the other draws follow
-      pub at-left : E p p ≡ false → budgeted budget (draws E (search E d) bs (last - (c + 1)) (c + 1 + 1) (looks + 1)) ≡ A
+      pub at-left : E p p ≡ false → Cut budget (drawsWith E m room (searchWith E m room d) bs (last - (c + 1)) (c + 1 + 1) (looks + 1) M) A K
       at-left a =
-          ap (λ n. budgeted budget (next n)) (add-one looks)
-          ∙ ap (λ b. budgeted budget (draw b p (search E d (complement (E p) bs)) next looks)) (sym a) ∙ step p is
+          let e : next (looks + 1) M ≡ one p = ap (λ n. next n M) (add-one looks) ∙ ap (λ b. drawWith b p (searchWith E m room d (complement (E p) bs)) next looks M) (sym a) in
+          let t = by-one p is in
+          (ap (λ (r : Remembered). budgeted budget (r .outcome)) e ∙ t .0, ap (λ (r : Remembered). knownWithin budget (r .memory)) e ∙ t .1)
 
       module _ (a : E p p ≡ true) where
-        abbrev out : Outcome
-        out = afterRest p failed (search E d (complement (E p) bs) (looks + 1))
+        abbrev r : Remembered
+        r = searchWith E m room d (complement (E p) bs) (looks + 1) M
 
-        taken : budgeted budget (orNext next out) ≡ A
-        taken =
-            ap (budgeted budget) (ap (λ n. orNext next (afterRest p failed (search E d (complement (E p) bs) n))) (add-one looks)
-            ∙ sym (taken-is p next (search E d (complement (E p) bs) (suc looks)))
-            ∙ ap (λ b. draw b p (search E d (complement (E p) bs)) next looks) (sym a))
-            ∙ step p is
+        abbrev taken : Outcome → List Entry → Remembered
+        taken o N = afterRestWith p next o N
 
-        -- what the draw came to
-        module _ (v : Ending) (k : ℕ) (l : List ℕ)
-            (ens : verdictOf v k l ≡ budgeted budget (afterRest p failed (search E d (complement (E p) bs) (looks + 1)))) where
-          at-found : v ≡ Found → verdictOf v k l ≡ A
-          at-found is = let e = says-found v k l is in e ∙ or-found budget next out l k (sym e ∙ ens) ∙ taken
+        by-rest : Cut budget (taken (r .outcome) (r .memory)) A K
+        by-rest =
+            let rest = searchWith E m room d (complement (E p) bs) in
+            let e : taken (r .outcome) (r .memory) ≡ one p =
+            ap (λ n. taken (rest n M .outcome) (rest n M .memory)) (add-one looks) ∙ ap (λ b. drawWith b p rest next looks M) (sym a) in
+            let t = by-one p is in
+            (ap (λ (r : Remembered). budgeted budget (r .outcome)) e ∙ t .0, ap (λ (r : Remembered). knownWithin budget (r .memory)) e ∙ t .1)
 
-          at-spent : v ≡ Spent → verdictOf v k l ≡ A
-          at-spent is = let e = says-spent v k l is in e ∙ or-spent budget next out next-up k (sym e ∙ ens) ∙ taken
+        -- what the search of its rest came to
+        module _ (v : Ending) (k : ℕ) (l : List ℕ) (N : List Entry)
+            (told : Told budget (searchWith E m room d (complement (E p) bs) (looks + 1) M) (verdictOf v k l) N) where
+          pub at-found : v ≡ Found → (verdictOf v k (p ∷ l) ≡ A) × (N ≡ K)
+          at-found is =
+              let f = of-ended budget (r .outcome) (found l k) (sym (says-found v k l is) ∙ told .0) in
+              let t : Cut budget (taken (found l k) (r .memory)) A K = subst (λ o. Cut budget (taken o (r .memory)) A K) (sym (f .0)) by-rest in
+              (says-found v k (p ∷ l) is ∙ sym (ends budget (found (p ∷ l) k) (subst (λ o. looksOf o ≤ budget) (sym (f .0)) (f .1))) ∙ t .0, told .1 ∙ t .1)
 
-          pub at-kept : (v ≡ Found) ⊎ (v ≡ Spent) → verdictOf v k l ≡ A
-          at-kept is = ⊎-elim at-found at-spent is
+          pub at-spent : v ≡ Spent → (l' : List ℕ) → (verdictOf v k l' ≡ A) × (N ≡ K)
+          at-spent is l' =
+              let f = of-spent budget (r .outcome) k (sym (says-spent v k l is) ∙ told .0) in
+              let b = taken (r .outcome) (r .memory) in
+              let t = tells-spent budget (r .outcome) (b .outcome) (r .memory) (b .memory) (f .1) (after-grows p next next-grows (r .outcome) (r .memory)) in
+              (says-spent v k l' is ∙ ap spent (f .0) ∙ t .0 ∙ by-rest .0, told .1 ∙ t .1 ∙ by-rest .1)
 
-          -- failed: the other draws follow, from its looks on
-          pub at-failed : v ≡ Failed → budgeted budget (draws E (search E d) bs (last - (c + 1)) (c + 1 + 1) k) ≡ A
-          at-failed is = or-failed budget next out k (sym (says-failed v k l is) ∙ ens) ∙ taken
+          -- failed: the other draws follow, from its looks and its memory on
+          pub at-failed : v ≡ Failed → Cut budget (drawsWith E m room (searchWith E m room d) bs (last - (c + 1)) (c + 1 + 1) k N) A K × (Stamped k N × (k ≤ budget))
+          at-failed is =
+              let f = of-ended budget (r .outcome) (failed k) (sym (says-failed v k l is) ∙ told .0) in
+              let now : Stamped (looks + 1) M = All·map (λ e n. omega (arith, n)) M s in
+              let g = search-grows E m room d (complement (E p) bs) (looks + 1) M in
+              let old : Stamped k (r .memory) = subst (λ o. Stamped (looksOf o) (r .memory)) (sym (f .0)) (stamped-on (looks + 1) M (r .outcome) (r .memory) now g) in
+              let fits : k ≤ budget = subst (λ o. looksOf o ≤ budget) (sym (f .0)) (f .1) in
+              let same : N ≡ r .memory = told .1 ∙ known-all budget (r .memory) (All·map (λ e n. le-trans n fits) (r .memory) old) in
+              let t : Cut budget (taken (failed k) (r .memory)) A K = subst (λ o. Cut budget (taken o (r .memory)) A K) (sym (f .0)) by-rest in
+              (subst (λ (L : List Entry). Cut budget (next k L) A K) (sym same) t, (subst (Stamped k) (sym same) old, fits))

@@ -2,6 +2,10 @@ pub mod Complements
 pub mod Alternates
 pub mod Complete
 pub mod Looks
+pub mod Grows
+pub mod Entries
 pub mod Budgets
 pub mod Verdicts
 pub mod Cores
+pub mod Remembers
+pub mod Narrow

@@ -1,3 +1,4 @@
 pub mod Spaces
 pub mod Search
 pub mod Readings
+pub mod Memory

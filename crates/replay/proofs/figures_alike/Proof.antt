@@ -2,7 +2,7 @@
 -- Assumes nothing.
 use borrow.Author.Tests.{eqb-true, eq-eqb}
 use Rattle.replay.specs.inner.Records.{Alike}
-use Rattle.replay.proofs.Refuted.{never}
+use Rattle.records.proofs.Refuted.{never}
 use borrow.Author.Needs.{needs}
 use Rattle.replay.proofs.figures_alike.Statement.{statement}
 use Rattle.replay.proofs.figures_alike.Tie as tie

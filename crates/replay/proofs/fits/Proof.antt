@@ -1,6 +1,6 @@
 -- `fits` answers yes only where every bound holds: each return before the last answers no.
 -- Assumes nothing.
-use Rattle.replay.proofs.Refuted.{never}
+use Rattle.records.proofs.Refuted.{never}
 use borrow.Author.Needs.{needs}
 use Rattle.replay.proofs.fits.Statement.{statement}
 use Rattle.replay.proofs.fits.Tie as tie

@@ -38,13 +38,16 @@ slice-aggregate-searched-2 : tie.Need-slice-aggregate-searched-2
 slice-aggregate-searched-2 c = refl
 
 searched-requires : tie.Need-searched-requires
-searched-requires c κs = lends (c .before .before .before .before .before .before .before .before .args .core .now) (c .before .before .before .before .before .rows-in .result) (c .before .before .before .before .lesser .result) (c .before .before .before .before .before .rows-in .ensures) (c .before .before .before .before .lesser .ensures) 8 _ (omega (arith, c .before .before .before .if1 .taken)) (sym levels-8)
+searched-requires c κs = lends (c .before .before .before .before .before .before .before .before .before .before .args .core .now) (c .before .before .before .before .before .before .rows-in .result) (c .before .before .before .before .before .lesser .result) (c .before .before .before .before .before .before .rows-in .ensures) (c .before .before .before .before .before .lesser .ensures) 8 _ (omega (arith, c .before .before .before .before .if1 .taken)) (sym levels-8)
 
 same-length : tie.Need-same-length
-same-length c = c .before .before .before .before .searched .kept .1 .1 .1 .1 .1 .0
+same-length c = c .before .before .before .before .before .before .searched .kept .1 .1 .1 .1 .1 .0
+
+same-length-2 : tie.Need-same-length-2
+same-length-2 c = c .before .before .before .before .before .before .searched .kept .1 .1 .1 .1 .1 .1 .0
 
 returns : tie.Need-returns
-returns c = c .before .before .before .before .searched .ensures
+returns c = c .before .before .before .before .before .before .searched .ensures
 
 slice-aggregate-searched-3 : tie.Need-slice-aggregate-searched-3
 slice-aggregate-searched-3 c = refl
@@ -53,13 +56,16 @@ slice-aggregate-searched-4 : tie.Need-slice-aggregate-searched-4
 slice-aggregate-searched-4 c = refl
 
 searched-requires-2 : tie.Need-searched-requires-2
-searched-requires-2 c κs = lends (c .before .before .before .before .before .before .before .before .before .args .core .now) (c .before .before .before .before .before .before .rows-in .result) (c .before .before .before .before .before .lesser .result) (c .before .before .before .before .before .before .rows-in .ensures) (c .before .before .before .before .before .lesser .ensures) 16 _ (omega (arith, c .before .before .before .if2 .taken)) (sym levels-16)
+searched-requires-2 c κs = lends (c .before .before .before .before .before .before .before .before .before .before .before .args .core .now) (c .before .before .before .before .before .before .before .rows-in .result) (c .before .before .before .before .before .before .lesser .result) (c .before .before .before .before .before .before .before .rows-in .ensures) (c .before .before .before .before .before .before .lesser .ensures) 16 _ (omega (arith, c .before .before .before .before .if2 .taken)) (sym levels-16)
 
-same-length-2 : tie.Need-same-length-2
-same-length-2 c = c .before .before .before .before .searched2 .kept .1 .1 .1 .1 .1 .0
+same-length-3 : tie.Need-same-length-3
+same-length-3 c = c .before .before .before .before .before .before .searched2 .kept .1 .1 .1 .1 .1 .0
+
+same-length-4 : tie.Need-same-length-4
+same-length-4 c = c .before .before .before .before .before .before .searched2 .kept .1 .1 .1 .1 .1 .1 .0
 
 returns-2 : tie.Need-returns-2
-returns-2 c = c .before .before .before .before .searched2 .ensures
+returns-2 c = c .before .before .before .before .before .before .searched2 .ensures
 
 slice-aggregate-searched-5 : tie.Need-slice-aggregate-searched-5
 slice-aggregate-searched-5 c = refl
@@ -68,13 +74,16 @@ slice-aggregate-searched-6 : tie.Need-slice-aggregate-searched-6
 slice-aggregate-searched-6 c = refl
 
 searched-requires-3 : tie.Need-searched-requires-3
-searched-requires-3 c κs = lends (c .before .before .before .before .before .before .before .before .before .before .args .core .now) (c .before .before .before .before .before .before .before .rows-in .result) (c .before .before .before .before .before .before .lesser .result) (c .before .before .before .before .before .before .before .rows-in .ensures) (c .before .before .before .before .before .before .lesser .ensures) 32 _ (omega (arith, c .before .before .before .if3 .taken)) (sym levels-32)
+searched-requires-3 c κs = lends (c .before .before .before .before .before .before .before .before .before .before .before .before .args .core .now) (c .before .before .before .before .before .before .before .before .rows-in .result) (c .before .before .before .before .before .before .before .lesser .result) (c .before .before .before .before .before .before .before .before .rows-in .ensures) (c .before .before .before .before .before .before .before .lesser .ensures) 32 _ (omega (arith, c .before .before .before .before .if3 .taken)) (sym levels-32)
 
-same-length-3 : tie.Need-same-length-3
-same-length-3 c = c .before .before .before .before .searched3 .kept .1 .1 .1 .1 .1 .0
+same-length-5 : tie.Need-same-length-5
+same-length-5 c = c .before .before .before .before .before .before .searched3 .kept .1 .1 .1 .1 .1 .0
+
+same-length-6 : tie.Need-same-length-6
+same-length-6 c = c .before .before .before .before .before .before .searched3 .kept .1 .1 .1 .1 .1 .1 .0
 
 returns-3 : tie.Need-returns-3
-returns-3 c = c .before .before .before .before .searched3 .ensures
+returns-3 c = c .before .before .before .before .before .before .searched3 .ensures
 
 slice-aggregate-searched-7 : tie.Need-slice-aggregate-searched-7
 slice-aggregate-searched-7 c = refl
@@ -83,13 +92,16 @@ slice-aggregate-searched-8 : tie.Need-slice-aggregate-searched-8
 slice-aggregate-searched-8 c = refl
 
 searched-requires-4 : tie.Need-searched-requires-4
-searched-requires-4 c κs = lends (c .before .before .before .before .before .before .before .before .before .before .args .core .now) (c .before .before .before .before .before .before .before .rows-in .result) (c .before .before .before .before .before .before .lesser .result) (c .before .before .before .before .before .before .before .rows-in .ensures) (c .before .before .before .before .before .before .lesser .ensures) 64 _ (few (c .before .before .before .before .before .before .before .before .before .before .args .core .now) (c .before .before .before .before .before .before .before .rows-in .result) (c .before .before .before .before .before .before .lesser .result) (c .before .before .before .before .before .before .before .rows-in .ensures) (c .before .before .before .before .before .before .lesser .ensures)) (sym levels-64)
+searched-requires-4 c κs = lends (c .before .before .before .before .before .before .before .before .before .before .before .before .args .core .now) (c .before .before .before .before .before .before .before .before .rows-in .result) (c .before .before .before .before .before .before .before .lesser .result) (c .before .before .before .before .before .before .before .before .rows-in .ensures) (c .before .before .before .before .before .before .before .lesser .ensures) 64 _ (few (c .before .before .before .before .before .before .before .before .before .before .before .before .args .core .now) (c .before .before .before .before .before .before .before .before .rows-in .result) (c .before .before .before .before .before .before .before .lesser .result) (c .before .before .before .before .before .before .before .before .rows-in .ensures) (c .before .before .before .before .before .before .before .lesser .ensures)) (sym levels-64)
 
-same-length-4 : tie.Need-same-length-4
-same-length-4 c = c .before .before .before .before .searched4 .kept .1 .1 .1 .1 .1 .0
+same-length-7 : tie.Need-same-length-7
+same-length-7 c = c .before .before .before .before .before .before .searched4 .kept .1 .1 .1 .1 .1 .0
+
+same-length-8 : tie.Need-same-length-8
+same-length-8 c = c .before .before .before .before .before .before .searched4 .kept .1 .1 .1 .1 .1 .1 .0
 
 returns-4 : tie.Need-returns-4
-returns-4 c = c .before .before .before .before .searched4 .ensures
+returns-4 c = c .before .before .before .before .before .before .searched4 .ensures
 
 pub congruence-triangularize-spec : {M : Type 1} → statement M
 congruence-triangularize-spec =
@@ -101,19 +113,23 @@ congruence-triangularize-spec =
     slice-aggregate-searched-2
     searched-requires
     same-length
+    same-length-2
     returns
     slice-aggregate-searched-3
     slice-aggregate-searched-4
     searched-requires-2
-    same-length-2
+    same-length-3
+    same-length-4
     returns-2
     slice-aggregate-searched-5
     slice-aggregate-searched-6
     searched-requires-3
-    same-length-3
+    same-length-5
+    same-length-6
     returns-3
     slice-aggregate-searched-7
     slice-aggregate-searched-8
     searched-requires-4
-    same-length-4
+    same-length-7
+    same-length-8
     returns-4)

@@ -1,131 +1,36 @@
--- `clifford_to_transvections_minimal` refuses by the first question that is answered no, by `minimal-early` and `minimal-refused`; else it answers what `searched` does, by `minimal-searched`.
+-- `clifford_to_transvections_minimal` lends no memory, so by the clause `plainly` it replies as document 01 says; the rest is what holds of that reply, by `minimal-shortest`.
 -- Assumes nothing.
-use mathlib.Core.Path.{_≡_, refl, sym, ap, ap₂, _∙_}
-use mathlib.Core.List.{List}
-use Prim.Native.Nat.{ℕ, _+_, _≤_}
 use native.Mathlib.Omega.{arith}
-use lib.ListN.{length}
-use Rattle.blocks.specs.Words.{rowsOfWords}
-use Rattle.questions.specs.declared.Question.{Question}
-use Rattle.questions.specs.declared.Question.the-variants.{Passed, TooManyQubits, WrongRowCount, RowTooWide, NotSymplectic}
-use Rattle.symplectic.specs.Sizes.{maxQubits}
-use Rattle.questions.specs.Answers.{numberOf}
-use Rattle.questions.specs.Replies.{Reply, actionQuestions}
-use Rattle.actions.proofs.Arrays.{loaded}
-use Rattle.questions.proofs.Questions.{passed-size, passed-count, list-passed, list-short}
-use Rattle.triangular.specs.Search.{budgeted}
-use Rattle.transvection_exact.specs.declared.Minimal.the-variants as minimal
-use Rattle.transvection_exact.specs.Minimal.{coreSearch, searchedReply}
+use Rattle.questions.proofs.Answered.{meets}
+use Rattle.transvection_exact.specs.Minimal.{minimalReply}
 use Rattle.transvection_exact.specs.Answers.{figuresOf}
-use Rattle.transvection_exact.proofs.Answered.{minimal-refused, minimal-early, minimal-searched}
+use Rattle.transvection_exact.proofs.Answered.{Promised, minimal-shortest}
 use borrow.Author.Needs.{needs}
 use Rattle.transvection_exact.proofs.clifford_to_transvections_minimal.Statement.{statement}
 use Rattle.transvection_exact.proofs.clifford_to_transvections_minimal.Tie as tie
 
--- the number that the questions answer, from the case that the code takes
-number : (c : tie.After-action-questions) (q : Question) (k : ℕ) → c .action-questions .result ≡ q → numberOf q ≡ k
-    → actionQuestions (c .before .before .before .args .n) (rowsOfWords (c .before .before .before .args .n) (c .before .before .before .args .rows .now)) ≡ k
-number c q k e h = sym (c .action-questions .ensures) ∙ ap numberOf e ∙ h
+slice-aggregate-clifford-to-transvections-minimal-remembering : tie.Need-slice-aggregate-clifford-to-transvections-minimal-remembering
+slice-aggregate-clifford-to-transvections-minimal-remembering c = search needs
 
--- every question of the action is passed
-passed : (c : tie.After-enum-told5)
-    → actionQuestions (c .before .before .before .before .before .args .n) (rowsOfWords (c .before .before .before .before .before .args .n) (c .before .before .before .before .before .args .rows .now)) ≡ 0
-passed c = number (c .before .before) Passed 0 (search (needs, c .enum-told5 .given)) refl
-
-few : (c : tie.After-enum-told5) → c .before .before .before .before .before .args .n ≤ maxQubits
-few c = passed-size (c .before .before .before .before .before .args .n) (rowsOfWords (c .before .before .before .before .before .args .n) (c .before .before .before .before .before .args .rows .now)) (passed c)
-
-action-questions-requires : tie.Need-action-questions-requires
-action-questions-requires c κs = search needs
-
-enum-told : tie.Need-enum-told
-enum-told c = search needs
-
-returns : tie.Need-returns
-returns c =
-    let s = c .before .before .before .before .before .args in
-    minimal-early (s .n) (s .rows .now) (s .budget) (s .out .now) 0 (figuresOf minimal.TooManyQubits) (number (c .before .before) TooManyQubits 1 (search (needs, c .enum-told .given)) refl) refl
-
-enum-told-2 : tie.Need-enum-told-2
-enum-told-2 c = search needs
-
-returns-2 : tie.Need-returns-2
-returns-2 c =
-    let s = c .before .before .before .before .before .args in
-    minimal-early (s .n) (s .rows .now) (s .budget) (s .out .now) 1 (figuresOf minimal.WrongRowCount) (number (c .before .before) WrongRowCount 2 (search (needs, c .enum-told2 .given)) refl) refl
-
-enum-told-3 : tie.Need-enum-told-3
-enum-told-3 c = search needs
-
-returns-3 : tie.Need-returns-3
-returns-3 c =
-    let s = c .before .before .before .before .before .args in
-    minimal-early (s .n) (s .rows .now) (s .budget) (s .out .now) 2 (figuresOf minimal.RowTooWide) (number (c .before .before) RowTooWide 3 (search (needs, c .enum-told3 .given)) refl) refl
-
-enum-told-4 : tie.Need-enum-told-4
-enum-told-4 c = search needs
-
-returns-4 : tie.Need-returns-4
-returns-4 c =
-    let s = c .before .before .before .before .before .args in
-    minimal-early (s .n) (s .rows .now) (s .budget) (s .out .now) 3 (figuresOf minimal.NotSymplectic) (number (c .before .before) NotSymplectic 4 (search (needs, c .enum-told4 .given)) refl) refl
-
-enum-told-5 : tie.Need-enum-told-5
-enum-told-5 c = search needs
-
-mul-wanted : tie.Need-mul-wanted
-mul-wanted c = omega (arith, few c)
-
-add-wanted : tie.Need-add-wanted
-add-wanted c = omega (arith, few c)
-
-returns-5 : tie.Need-returns-5
-returns-5 c =
-    let s = c .before .before .before .before .before .before .args in
-    minimal-refused (s .n) (s .rows .now) (s .budget) (s .out .now) 4 (figuresOf minimal.OutputTooShort)
-    (list-short (s .n) (rowsOfWords (s .n) (s .rows .now)) (s .n + s .n + 1) (length (s .out .now)) (passed (c .before)) (omega arith)) refl
-
-from-words-requires : tie.Need-from-words-requires
-from-words-requires c κs = search needs
-
-searched-requires : tie.Need-searched-requires
-searched-requires c κs = search needs
+clifford-to-transvections-minimal-remembering-requires : tie.Need-clifford-to-transvections-minimal-remembering-requires
+clifford-to-transvections-minimal-remembering-requires c κs = search needs
 
 same-length : tie.Need-same-length
 same-length c = search needs
 
-returns-6 : tie.Need-returns-6
-returns-6 c =
-    let s = c .before .before .before .before .before .before .before .before .before .before .before .args in
-    let t = c .before .before .before .before .before .before in
-    let F = rowsOfWords (s .n) (s .rows .now) in
-    let l = c .before .before .before .before .from-words in
-    let e = c .before .before .searched in
-    let same = loaded (l .result) (s .n) F (few t) (passed-count (s .n) F (passed t)) (l .ensures .0) (l .ensures .1) in
-    let w = ap₂ (λ (m : ℕ) (G : List ℕ). searchedReply m G (budgeted (s .budget) (coreSearch m G)) (s .out .now)) (same .0) (same .1) in
-    minimal-searched (s .n) (s .rows .now) (s .budget) (s .out .now) (e .last .1 .1 .0) (figuresOf (e .result))
-    (list-passed (s .n) F (s .n + s .n + 1) (length (s .out .now)) (passed t) (omega arith))
-    (e .ensures .0 ∙ ap (λ (x : Reply). x .figures) w)
-    (e .ensures .1 ∙ ap (λ (x : Reply). x .words) w)
+returns : tie.Need-returns
+returns c =
+    let s = c .before .before .before .before .before .before .before .before .args in
+    let e = c .before .before .before .clifford-to-transvections-minimal-remembering in
+    let p = e .ensures .1 .1 .1 .1 .1 .1 .1 (omega arith) in
+    meets (Promised (s .n) (s .rows .now) (s .budget) (s .out .now)) (minimalReply (s .n) (s .rows .now) (s .budget) (s .out .now)) (minimal-shortest (s .n) (s .rows .now) (s .budget) (s .out .now))
+    (e .last .1 .1 .1 .1 .0) (figuresOf (e .result)) (p .0) (p .1 .0)
 
 pub clifford-to-transvections-minimal-spec : {M : Type 1} → statement M
 clifford-to-transvections-minimal-spec =
     tie.close
     (tie.spec
-    action-questions-requires
-    enum-told
-    returns
-    enum-told-2
-    returns-2
-    enum-told-3
-    returns-3
-    enum-told-4
-    returns-4
-    enum-told-5
-    mul-wanted
-    add-wanted
-    returns-5
-    from-words-requires
-    searched-requires
+    slice-aggregate-clifford-to-transvections-minimal-remembering
+    clifford-to-transvections-minimal-remembering-requires
     same-length
-    returns-6)
+    returns)

@@ -21,6 +21,9 @@ congruence-triangularize-requires c κs = search needs
 enum-told : tie.Need-enum-told
 enum-told c = search needs
 
+same-length : tie.Need-same-length
+same-length c = search needs
+
 enum-told-2 : tie.Need-enum-told-2
 enum-told-2 c = search needs
 
@@ -37,13 +40,16 @@ array-share-prefix-list : tie.Need-array-share-prefix-list
 array-share-prefix-list c = search needs
 
 slice-aggregate-multiplied : tie.Need-slice-aggregate-multiplied
-slice-aggregate-multiplied c = part-words (c .before .before .rows-in .result) (c .before .start .result) (c .before .before .before .before .before .before .before .congruence-triangularize .last .1 .1 .0) (c .before .start .ensures)
+slice-aggregate-multiplied c = part-words (c .before .before .rows-in .result) (c .before .start .result) (c .before .before .before .before .before .before .before .before .before .congruence-triangularize .last .1 .1 .1 .0) (c .before .start .ensures)
 
 multiplied-requires : tie.Need-multiplied-requires
 multiplied-requires c κs = search needs
 
-same-length : tie.Need-same-length
-same-length c = search needs
+same-length-2 : tie.Need-same-length-2
+same-length-2 c = search needs
+
+same-length-3 : tie.Need-same-length-3
+same-length-3 c = search needs
 
 enum-told-3 : tie.Need-enum-told-3
 enum-told-3 c = search needs
@@ -57,6 +63,9 @@ bordered-list-requires c κs = search needs
 enum-told-4 : tie.Need-enum-told-4
 enum-told-4 c = search needs
 
+same-length-4 : tie.Need-same-length-4
+same-length-4 c = search needs
+
 enum-told-5 : tie.Need-enum-told-5
 enum-told-5 c = search needs
 
@@ -67,7 +76,7 @@ rows-in-requires-2 : tie.Need-rows-in-requires-2
 rows-in-requires-2 c κs = search needs
 
 add-start : tie.Need-add-start
-add-start c = omega (arith, c .rows-in2 .ensures, rows-few (c .before .before .before .before .before .before .before .before .before .before .before .before .before .before .before .before))
+add-start c = omega (arith, c .rows-in2 .ensures, rows-few (c .before .before .before .before .before .before .before .before .before .before .before .before .before .before .before .before .before .before .before .before))
 
 start-requires-2 : tie.Need-start-requires-2
 start-requires-2 c κs = search needs
@@ -81,8 +90,11 @@ slice-aggregate-laid-out c = part-words (c .before .before .rows-in2 .result + 1
 laid-out-requires : tie.Need-laid-out-requires
 laid-out-requires c κs = search needs
 
-same-length-2 : tie.Need-same-length-2
-same-length-2 c = search needs
+same-length-5 : tie.Need-same-length-5
+same-length-5 c = search needs
+
+same-length-6 : tie.Need-same-length-6
+same-length-6 c = search needs
 
 pub from-core-spec : {M : Type 1} → statement M
 from-core-spec =
@@ -92,6 +104,7 @@ from-core-spec =
     slice-aggregate-congruence-triangularize
     congruence-triangularize-requires
     enum-told
+    same-length
     returns
     enum-told-2
     slice-aggregate-start
@@ -100,12 +113,14 @@ from-core-spec =
     array-share-prefix-list
     slice-aggregate-multiplied
     multiplied-requires
-    same-length
+    same-length-2
+    same-length-3
     returns-2
     enum-told-3
     slice-aggregate-bordered-list
     bordered-list-requires
     enum-told-4
+    same-length-4
     returns-3
     enum-told-5
     slice-aggregate-start-2
@@ -115,5 +130,6 @@ from-core-spec =
     array-share-prefix-bordered
     slice-aggregate-laid-out
     laid-out-requires
-    same-length-2
+    same-length-5
+    same-length-6
     returns-4)

@@ -56,23 +56,26 @@ slice-aggregate-from-core-2 c = part-words (c .before .before .before .before .b
 
 from-core-requires : tie.Need-from-core-requires
 from-core-requires c κs =
-    let start = c .before .before .before .before .before .before .before .before .before .before .before .before .before in
+    let start = c .before .before .before .before .before .before .before .before .before .before .before .before .before .before .before in
     let a = start .args .a in
     let n = qubits a in
     let F = matrix a in
-    let r = c .before .before .before .before .before .before .before .before .before .residue-core in
+    let r = c .before .before .before .before .before .before .before .before .before .before .residue-core in
     let b-few = basis-within n F (size start) in
     let c-few = core-within n F (size start) in
     let b-size : r .result ≡ length (basis n F) = r .ensures .0 in
     let c-size : r .result ≡ length (core n F) = r .ensures .0 ∙ sym (core-length n F) in (
-      lent-front (r .result) (c .before .before .before .before .before .start .result) (r .last .1 .0) (c .before .before .before .before .before .start .ensures) ∙ ap₂ take b-size (r .ensures .1 .0)
+      lent-front (r .result) (c .before .before .before .before .before .before .start .result) (r .last .1 .0) (c .before .before .before .before .before .before .start .ensures) ∙ ap₂ take b-size (r .ensures .1 .0)
           ∙ over-front (basis n F) (rowsIn (replicate mostRows 0)) (room-in mostRows (length (basis n F)) (omega (arith, b-few, qubits-le a))),
-      lent-front (r .result) (c .before .before .before .start2 .result) (r .last .1 .1 .0) (c .before .before .before .start2 .ensures) ∙ ap₂ take c-size (r .ensures .1 .1)
+      lent-front (r .result) (c .before .before .before .before .start2 .result) (r .last .1 .1 .0) (c .before .before .before .before .start2 .ensures) ∙ ap₂ take c-size (r .ensures .1 .1)
           ∙ over-front (core n F) (rowsIn (replicate mostRows 0)) (room-in mostRows (length (core n F)) (omega (arith, c-few, qubits-le a))),
     )
 
 same-length : tie.Need-same-length
 same-length c = search needs
+
+same-length-2 : tie.Need-same-length-2
+same-length-2 c = search needs
 
 returns : tie.Need-returns
 returns c = search needs
@@ -94,4 +97,5 @@ searched-spec =
     slice-aggregate-from-core-2
     from-core-requires
     same-length
+    same-length-2
     returns)

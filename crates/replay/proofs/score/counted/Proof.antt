@@ -1,4 +1,4 @@
--- `counted` counts at the kind of the record, which is below 4 where `known` answers yes.
+-- `counted` counts at the kind of the record, which is below 6 where `known` answers yes.
 -- Assumes nothing.
 use borrow.Author.Tests.{not-false}
 use borrow.Author.Needs.{needs}

@@ -1,6 +1,6 @@
 -- The four ends of `from_core`, by `searched-spent`, `searched-found`, `searched-unbordered` and `searched-bordered`.
 -- Assumes nothing.
-use mathlib.Core.Path.{_≡_, sym, ap, ap₂, _∙_}
+use mathlib.Core.Path.{_≡_, sym, ap, ap₂, _∙_, subst}
 use mathlib.Core.List.{List}
 use mathlib.Core.Option.{Option}
 use Prim.Native.Nat.{ℕ, _+_, _≤_}
@@ -25,19 +25,46 @@ use Rattle.bordered.specs.declared.Candidate.the-variants.{Passed}
 use Rattle.bordered.specs.Checks.{checkedList}
 use Rattle.bordered.specs.Readings.{listOf}
 use Rattle.bordered.proofs.Listed.{bordered-of}
+use Rattle.triangular.specs.Search.{Outcome, budgeted}
+use Rattle.triangular.specs.Memory.{Remembered, searchedCore, knownWithin}
+use Rattle.memory.specs.Entries.{memoryWords, roomIn}
 use Rattle.triangular.specs.Readings.{coreIn, basisFound}
-use Rattle.transvection_exact.proofs.Outcomes.{same-verdict, found-size, searched-spent, searched-found, searched-unbordered, searched-bordered, bordered-size}
+use Rattle.transvection_exact.specs.Minimal.{coreSearchWith}
+use Rattle.transvection_exact.proofs.Outcomes.{Came, found-size, searched-spent, searched-found, searched-unbordered, searched-bordered, bordered-size}
+use Rattle.transvection_exact.proofs.Remembering.{remembered-right, same-core}
 use borrow.Author.Needs.{needs}
 use Rattle.transvection_exact.proofs.from_core.Tie as tie
 
-qubits-is : (c : tie.After-capped) → c .capped .result ≡ qubits (c .before .before .before .before .args .a)
-qubits-is c = c .capped .ensures ∙ sym (qubits-capped (c .before .before .before .before .args .a))
+qubits-is : (c : tie.After-capped) → c .capped .result ≡ qubits (c .before .before .before .before .before .args .a)
+qubits-is c = c .capped .ensures ∙ sym (qubits-capped (c .before .before .before .before .before .args .a))
 
 size : (c : tie.Start) → length (matrix (c .args .a)) ≡ qubits (c .args .a) + qubits (c .args .a)
 size c = let long : length (c .args .a .rows) ≡ mostRows = search (needs, unmapped) in matrix-length (c .args .a) long
 
 pub rows-few : (c : tie.Start) → length (rowsIn (c .args .core .now)) ≤ width
 rows-few c = let few = core-within (qubits (c .args .a)) (matrix (c .args .a)) (size c) in omega (arith, ap length (c .pre .1), few, qubits-le (c .args .a))
+
+-- the search without a budget, with the room of the lent memory
+abbrev sought : tie.Start → Remembered
+sought c = coreSearchWith (qubits (c .args .a)) (matrix (c .args .a)) (roomIn (c .args .memory .now))
+
+abbrev outcome : tie.Start → Outcome
+outcome c = sought c .outcome
+
+same : (c : tie.Start) → searchedCore (coreIn (c .args .core .now)) (roomIn (c .args .memory .now)) ≡ sought c
+same c = same-core (qubits (c .args .a)) (matrix (c .args .a)) (size c) (qubits-le (c .args .a)) (c .args .core .now) (c .pre .1) (roomIn (c .args .memory .now))
+
+came : (c : tie.After-congruence-triangularize) → Came (c .congruence-triangularize .result) (c .before .before .before .before .before .before .before .before .args .budget) (outcome (c .before .before .before .before .before .before .before .before))
+came c =
+    let start = c .before .before .before .before .before .before .before .before in
+    subst (Came (c .congruence-triangularize .result) (start .args .budget)) (ap (λ (s : Remembered). s .outcome) (same start)) (c .congruence-triangularize .ensures .0)
+
+-- the entries of the search are put over the memory
+entered : (c : tie.After-congruence-triangularize)
+    → c .congruence-triangularize .last .1 .1 .0 ≡ over (memoryWords (knownWithin (c .before .before .before .before .before .before .before .before .args .budget) (sought (c .before .before .before .before .before .before .before .before) .memory))) (c .before .before .before .before .before .before .before .before .args .memory .now)
+entered c =
+    let s = c .before .before .before .before .before .before .before .before .args in
+    c .congruence-triangularize .ensures .1 .1 ∙ ap (λ (x : Remembered). over (memoryWords (knownWithin (s .budget) (x .memory))) (s .memory .now)) (same (c .before .before .before .before .before .before .before .before))
 
 -- the bordered list of the basis and the core
 abbrev listed-in : tie.Start → Option (List ℕ)
@@ -47,58 +74,58 @@ listed-in c =
 
 pub returns : tie.Need-returns
 returns c =
-    let start = c .before .before .before .before .before .before .before .before .before in
+    let start = c .before .before .before .before .before .before .before .before .before .before .before .before .before in
     let s = start .args in
-    let pre = start .pre in
-    let o = c .before .before .before .congruence-triangularize in
-    let w = searched-spent (qubits (s .a)) (matrix (s .a)) (size start) (qubits-le (s .a)) (s .budget) (s .out .now) (s .core .now) (pre .1) (o .result) (o .ensures .0) (search (needs, c .enum-told .given)) in
-    (sym (ap (λ (x : Reply). x .figures) w), sym (ap (λ (x : Reply). x .words) w))
+    let o = c .before .before .before .before .before .congruence-triangularize in
+    let w = searched-spent (qubits (s .a)) (matrix (s .a)) (s .budget) (s .out .now) (outcome start) (o .result) (came (c .before .before .before .before .before)) (search (needs, c .enum-told .given)) in
+    (sym (ap (λ (x : Reply). x .figures) w), (sym (ap (λ (x : Reply). x .words) w), entered (c .before .before .before .before .before)))
 
 pub returns-2 : tie.Need-returns-2
 returns-2 c =
-    let start = c .before .before .before .before .before .before .before .before .before .before .before .before .before .before .before .before .before in
+    let start = c .before .before .before .before .before .before .before .before .before .before .before .before .before .before .before .before .before .before .before .before .before in
     let s = start .args in
     let pre = start .pre in
-    let o = c .before .before .before .before .before .before .before .before .before .before .before .congruence-triangularize in
-    let q = qubits-is (c .before .before .before .before .before .before .before .before .before .before .before .before .before) in
+    let o = c .before .before .before .before .before .before .before .before .before .before .before .before .before .congruence-triangularize in
+    let q = qubits-is (c .before .before .before .before .before .before .before .before .before .before .before .before .before .before .before .before) in
     let told : o .result .ending ≡ Found = search (needs, c .before .before .before .before .before .before .before .before .enum-told2 .given) in
     let e = c .before .before .multiplied .ensures in
     let zeros = rowsIn (replicate width 0) in
     let n = c .before .before .before .before .before .before .rows-in .ensures in
     let few = rows-few start in
-    let list : rowsIn (take (c .before .before .before .before .before .start .result) (o .last .1 .1 .0)) ≡ basisFound _ =
-    lent-front (c .before .before .before .before .before .before .rows-in .result) (c .before .before .before .before .before .start .result) (o .last .1 .1 .0) (c .before .before .before .before .before .start .ensures)
-    ∙ ap₂ take (n ∙ sym (found-size (qubits (s .a)) (matrix (s .a)) (size start) (qubits-le (s .a)) (s .budget) (s .out .now) (s .core .now) (pre .1) (o .result) (o .ensures .0) told)) (o .ensures .1 ∙ ap (λ v. over (basisFound v) zeros) (same-verdict (qubits (s .a)) (matrix (s .a)) (size start) (qubits-le (s .a)) (s .budget) (s .out .now) (s .core .now) (pre .1) (o .result) (o .ensures .0)))
-    ∙ over-front _ zeros (omega (arith, found-size (qubits (s .a)) (matrix (s .a)) (size start) (qubits-le (s .a)) (s .budget) (s .out .now) (s .core .now) (pre .1) (o .result) (o .ensures .0) told, room-in width (length (rowsIn (s .core .now))) few)) in
-    let vs = matmul (rowsIn (take (c .before .before .before .before .before .start .result) (o .last .1 .1 .0))) (rowsIn (s .basis .now)) in
-    let w = searched-found (qubits (s .a)) (matrix (s .a)) (size start) (qubits-le (s .a)) (s .budget) (s .out .now) (s .core .now) (pre .1) (o .result) (o .ensures .0) vs told (ap₂ matmul list (pre .0)) in
-    (e .0 ∙ sym (ap (λ (x : Reply). x .figures) w), e .1 ∙ ap (λ (m : ℕ). laid m vs (s .out .now)) q ∙ sym (ap (λ (x : Reply). x .words) w))
+    let many = found-size (qubits (s .a)) (matrix (s .a)) (s .budget) (s .out .now) (outcome start) (o .result) (came (c .before .before .before .before .before .before .before .before .before .before .before .before .before)) (remembered-right (qubits (s .a)) (matrix (s .a)) (roomIn (s .memory .now))) told (s .core .now) (pre .1) in
+    let list : rowsIn (take (c .before .before .before .before .before .start .result) (o .last .1 .1 .1 .0)) ≡ basisFound _ =
+    lent-front (c .before .before .before .before .before .before .rows-in .result) (c .before .before .before .before .before .start .result) (o .last .1 .1 .1 .0) (c .before .before .before .before .before .start .ensures)
+    ∙ ap₂ take (n ∙ sym many) (o .ensures .1 .0 ∙ ap (λ (x : Remembered). over (basisFound (budgeted (s .budget) (x .outcome))) zeros) (same start))
+    ∙ over-front _ zeros (omega (arith, many, room-in width (length (rowsIn (s .core .now))) few)) in
+    let vs = matmul (rowsIn (take (c .before .before .before .before .before .start .result) (o .last .1 .1 .1 .0))) (rowsIn (s .basis .now)) in
+    let w = searched-found (qubits (s .a)) (matrix (s .a)) (s .budget) (s .out .now) (outcome start) (o .result) (came (c .before .before .before .before .before .before .before .before .before .before .before .before .before)) vs told (ap₂ matmul list (pre .0)) in
+    (e .0 ∙ sym (ap (λ (x : Reply). x .figures) w), (e .1 ∙ ap (λ (m : ℕ). laid m vs (s .out .now)) q ∙ sym (ap (λ (x : Reply). x .words) w), entered (c .before .before .before .before .before .before .before .before .before .before .before .before .before)))
 
 pub returns-3 : tie.Need-returns-3
 returns-3 c =
-    let start = c .before .before .before .before .before .before .before .before .before .before .before .before .before .before in
+    let start = c .before .before .before .before .before .before .before .before .before .before .before .before .before .before .before .before .before .before in
     let s = start .args in
     let pre = start .pre in
-    let o = c .before .before .before .before .before .before .before .before .congruence-triangularize in
+    let o = c .before .before .before .before .before .before .before .before .before .before .congruence-triangularize in
     let l = c .before .before .before .bordered-list in
     let is = bordered-of (qubits (s .a)) (matrix (s .a)) (size start) (qubits-le (s .a)) (s .basis .now) (s .core .now) (pre .0) (pre .1) in
-    let w = searched-unbordered (qubits (s .a)) (matrix (s .a)) (size start) (qubits-le (s .a)) (s .budget) (s .out .now) (s .core .now) (pre .1) (o .result) (o .ensures .0) (search (needs, c .before .before .before .before .before .enum-told3 .given)) (l .result) (listed-in start) is (l .ensures .0) (search (needs, c .enum-told4 .given)) in
-    (sym (ap (λ (x : Reply). x .figures) w), sym (ap (λ (x : Reply). x .words) w))
+    let w = searched-unbordered (qubits (s .a)) (matrix (s .a)) (s .budget) (s .out .now) (outcome start) (o .result) (came (c .before .before .before .before .before .before .before .before .before .before)) (search (needs, c .before .before .before .before .before .enum-told3 .given)) (l .result) (listed-in start) is (l .ensures .0) (search (needs, c .enum-told4 .given)) in
+    (sym (ap (λ (x : Reply). x .figures) w), (sym (ap (λ (x : Reply). x .words) w), entered (c .before .before .before .before .before .before .before .before .before .before)))
 
 pub returns-4 : tie.Need-returns-4
 returns-4 c =
-    let start = c .before .before .before .before .before .before .before .before .before .before .before .before .before .before .before .before .before .before .before .before .before .before in
+    let start = c .before .before .before .before .before .before .before .before .before .before .before .before .before .before .before .before .before .before .before .before .before .before .before .before .before .before in
     let s = start .args in
     let pre = start .pre in
-    let o = c .before .before .before .before .before .before .before .before .before .before .before .before .before .before .before .before .congruence-triangularize in
-    let q = qubits-is (c .before .before .before .before .before .before .before .before .before .before .before .before .before .before .before .before .before .before) in
+    let o = c .before .before .before .before .before .before .before .before .before .before .before .before .before .before .before .before .before .before .congruence-triangularize in
+    let q = qubits-is (c .before .before .before .before .before .before .before .before .before .before .before .before .before .before .before .before .before .before .before .before .before) in
     let l = c .before .before .before .before .before .before .before .before .before .before .before .bordered-list in
     let k = c .before .before .before .before .before .before .rows-in2 in
     let to = c .before .before .before .before .before .start2 in
     let is = bordered-of (qubits (s .a)) (matrix (s .a)) (size start) (qubits-le (s .a)) (s .basis .now) (s .core .now) (pre .0) (pre .1) in
     let fails : o .result .ending ≡ Failed = search (needs, c .before .before .before .before .before .before .before .before .before .before .before .before .before .enum-told3 .given) in
     let passed : l .result ≡ Passed = search (needs, c .before .before .before .before .before .before .before .before .enum-told5 .given) in
-    let count = bordered-size (qubits (s .a)) (matrix (s .a)) (size start) (qubits-le (s .a)) (s .budget) (s .out .now) (s .core .now) (pre .1) (o .result) (o .ensures .0) fails (l .result) (listed-in start) is (l .ensures .0) passed in
+    let count = bordered-size (qubits (s .a)) (matrix (s .a)) (s .core .now) (pre .1) (l .result) (listed-in start) is (l .ensures .0) passed in
     let one : k .result + 1 ≡ length (listOf (listed-in start)) = omega (arith, count, k .ensures) in
     let zeros = rowsIn (replicate mostVectors 0) in
     let few = rows-few start in
@@ -106,5 +133,5 @@ returns-4 c =
     lent-front (k .result + 1) (to .result) (l .last .1 .1 .1 .0) (to .ensures) ∙ ap₂ take one (l .ensures .1) ∙ over-front (listOf (listed-in start)) zeros (room-in mostVectors (length (listOf (listed-in start))) (omega (arith, count, few))) in
     let vs = rowsIn (take (to .result) (l .last .1 .1 .1 .0)) in
     let e = c .before .before .laid-out .ensures in
-    let w = searched-bordered (qubits (s .a)) (matrix (s .a)) (size start) (qubits-le (s .a)) (s .budget) (s .out .now) (s .core .now) (pre .1) (o .result) (o .ensures .0) fails (l .result) (listed-in start) is (l .ensures .0) vs passed list in
-    (e .0 ∙ sym (ap (λ (x : Reply). x .figures) w), e .1 ∙ ap (λ (m : ℕ). laid m vs (s .out .now)) q ∙ sym (ap (λ (x : Reply). x .words) w))
+    let w = searched-bordered (qubits (s .a)) (matrix (s .a)) (s .budget) (s .out .now) (outcome start) (o .result) (came (c .before .before .before .before .before .before .before .before .before .before .before .before .before .before .before .before .before .before)) fails (l .result) (listed-in start) is (l .ensures .0) vs passed list in
+    (e .0 ∙ sym (ap (λ (x : Reply). x .figures) w), (e .1 ∙ ap (λ (m : ℕ). laid m vs (s .out .now)) q ∙ sym (ap (λ (x : Reply). x .words) w), entered (c .before .before .before .before .before .before .before .before .before .before .before .before .before .before .before .before .before .before)))
