@@ -20,7 +20,7 @@ use Rattle.symplectic.specs.Matches.{sameRows}
 use Rattle.triangular.specs.Memory.{Entry, holds, enter, enterIf}
 use Rattle.triangular.proofs.Entries.{holds-none, holds-first, enter-is}
 use Rattle.memory.specs.Entries.{entrySize, entryWords, memoryWords, roomIn, heldIn, enteredIf, entered, takenIf, taken}
-use Rattle.memory.specs.Kept.{Fits, Kept}
+use Rattle.memory.specs.inner.Kept.{Fits, Kept}
 
 -- ---- lengths
 

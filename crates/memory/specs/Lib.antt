@@ -1,2 +1,2 @@
 pub mod Entries
-pub mod Kept
+pub mod inner

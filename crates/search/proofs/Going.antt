@@ -15,7 +15,7 @@ use Rattle.triangular.specs.Spaces.{complement}
 use Rattle.triangular.specs.Search.{budgeted}
 use Rattle.triangular.specs.Memory.{Entry, Remembered, drawsWith, searchWith, knownWithin}
 use Rattle.triangular.proofs.Budgets.{Cut, says-failed, says-spent, space-begun, at-end, at-stop, at-left, at-found, at-spent, at-failed}
-use Rattle.memory.specs.Kept.{Kept}
+use Rattle.memory.specs.inner.Kept.{Kept}
 use Rattle.search.specs.inner.Reports.{Carries, Reports}
 
 module _ (E : List ℕ) (room budget d : ℕ) (B : List ℕ) (looks : ℕ) (M : List Entry) where

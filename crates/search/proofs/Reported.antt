@@ -21,7 +21,7 @@ use Rattle.triangular.specs.Readings.{verdictOf}
 use Rattle.triangular.proofs.Entries.{Stamped, holds-none}
 use Rattle.triangular.proofs.Budgets.{Told, says-found, says-failed, space-empty, space-held, space-alternating, open-found, open-spent, open-failed}
 use Rattle.memory.specs.Entries.{roomIn, entered, taken}
-use Rattle.memory.specs.Kept.{Fits, Kept}
+use Rattle.memory.specs.inner.Kept.{Fits, Kept}
 use Rattle.memory.proofs.Kept.{kept-entered, entered-rest}
 use Rattle.search.specs.inner.Reports.{Grew, Reports}
 

@@ -28,13 +28,13 @@ try-draw-lowest-requires : (t : ℕ) → try-draw-lts.Need-lowest-requires (draw
 try-draw-lowest-requires t c κs = tt
 
 try-draw-add-start : (t : ℕ) → try-draw-lts.Need-add-start (draw-claims t) (try-draw-at t) try-draw.Post
-try-draw-add-start t c = search needs
+try-draw-add-start t c = omega (arith, c .before .before .before .before .before .before .before .before .before .before .pre .1 .1)
 
 try-draw-start-requires : (t : ℕ) → try-draw-lts.Need-start-requires (draw-claims t) (try-draw-at t) try-draw.Post
 try-draw-start-requires t c κs = tt
 
 try-draw-add-start-2 : (t : ℕ) → try-draw-lts.Need-add-start-2 (draw-claims t) (try-draw-at t) try-draw.Post
-try-draw-add-start-2 t c = search needs
+try-draw-add-start-2 t c = omega (arith, c .before .before .before .before .before .before .before .before .before .before .before .before .pre .1 .1)
 
 try-draw-start-requires-2 : (t : ℕ) → try-draw-lts.Need-start-requires-2 (draw-claims t) (try-draw-at t) try-draw.Post
 try-draw-start-requires-2 t c κs = tt
@@ -43,10 +43,10 @@ try-draw-mul-try-space : (t : ℕ) → try-draw-lts.Need-mul-try-space (draw-cla
 try-draw-mul-try-space t c = search needs
 
 try-draw-sub-try-space : (t : ℕ) → try-draw-lts.Need-sub-try-space (draw-claims t) (try-draw-at t) try-draw.Post
-try-draw-sub-try-space t c = search needs
+try-draw-sub-try-space t c = starts-b t (c .before .before .before .before .before) (c .before .before .pass-members .last .0) (c .before .before .pass-members .kept .0) (c .before .before .pass-members .ensures .0) (c .before .before .pass-members .ensures .1)
 
 try-draw-part-try-space-start : (t : ℕ) → try-draw-lts.Need-part-try-space-start (draw-claims t) (try-draw-at t) try-draw.Post
-try-draw-part-try-space-start t c = search needs
+try-draw-part-try-space-start t c = starts-b t (c .before .before .before .before .before) (c .before .before .pass-members .last .0) (c .before .before .pass-members .kept .0) (c .before .before .pass-members .ensures .0) (c .before .before .pass-members .ensures .1)
 
 try-draw-part-try-space-end : (t : ℕ) → try-draw-lts.Need-part-try-space-end (draw-claims t) (try-draw-at t) try-draw.Post
 try-draw-part-try-space-end t c = search needs
@@ -55,16 +55,16 @@ try-draw-mul-try-space-2 : (t : ℕ) → try-draw-lts.Need-mul-try-space-2 (draw
 try-draw-mul-try-space-2 t c = search needs
 
 try-draw-sub-try-space-2 : (t : ℕ) → try-draw-lts.Need-sub-try-space-2 (draw-claims t) (try-draw-at t) try-draw.Post
-try-draw-sub-try-space-2 t c = search needs
+try-draw-sub-try-space-2 t c = lent-within (c .before .before .before .before .before .before .before .before .before .before .before .before .before .before .before .before .before .before .before .args .d + c .before .before .before .before .before .before .before .before .before .before .before .before .before .before .before .before .before .before .before .args .d) (c .before .before .before .before .before .before .before .before .start .result) (c .before .before .before .before .before .before .before .before .before .before .before .before .pass-gram .last .0) (c .before .before .before .before .before .before .before .before .start .ensures)
 
 try-draw-part-try-space-start-2 : (t : ℕ) → try-draw-lts.Need-part-try-space-start-2 (draw-claims t) (try-draw-at t) try-draw.Post
-try-draw-part-try-space-start-2 t c = search needs
+try-draw-part-try-space-start-2 t c = lent-within (c .before .before .before .before .before .before .before .before .before .before .before .before .before .before .before .before .before .before .before .args .d + c .before .before .before .before .before .before .before .before .before .before .before .before .before .before .before .before .before .before .before .args .d) (c .before .before .before .before .before .before .before .before .start .result) (c .before .before .before .before .before .before .before .before .before .before .before .before .pass-gram .last .0) (c .before .before .before .before .before .before .before .before .start .ensures)
 
 try-draw-part-try-space-end-2 : (t : ℕ) → try-draw-lts.Need-part-try-space-end-2 (draw-claims t) (try-draw-at t) try-draw.Post
 try-draw-part-try-space-end-2 t c = search needs
 
 try-draw-sub-try-space-3 : (t : ℕ) → try-draw-lts.Need-sub-try-space-3 (draw-claims t) (try-draw-at t) try-draw.Post
-try-draw-sub-try-space-3 t c = search needs
+try-draw-sub-try-space-3 t c = c .before .before .before .before .before .before .before .before .before .before .before .before .before .before .before .before .before .before .before .before .before .pre .1 .0
 
 try-draw-same-length : (t : ℕ) → try-draw-lts.Need-same-length (draw-claims t) (try-draw-at t) try-draw.Post
 try-draw-same-length t c = search needs
@@ -79,16 +79,16 @@ try-draw-mul-is-alternating : (t : ℕ) → try-draw-lts.Need-mul-is-alternating
 try-draw-mul-is-alternating t c = search needs
 
 try-draw-sub-is-alternating : (t : ℕ) → try-draw-lts.Need-sub-is-alternating (draw-claims t) (try-draw-at t) try-draw.Post
-try-draw-sub-is-alternating t c = search needs
+try-draw-sub-is-alternating t c = lent-within (c .before .before .before .before .before .before .before .before .before .before .before .before .before .before .args .d + c .before .before .before .before .before .before .before .before .before .before .before .before .before .before .args .d) (c .before .before .before .start .result) (c .before .before .before .before .before .before .before .pass-gram .last .0) (c .before .before .before .start .ensures)
 
 try-draw-part-is-alternating-start : (t : ℕ) → try-draw-lts.Need-part-is-alternating-start (draw-claims t) (try-draw-at t) try-draw.Post
-try-draw-part-is-alternating-start t c = search needs
+try-draw-part-is-alternating-start t c = lent-within (c .before .before .before .before .before .before .before .before .before .before .before .before .before .before .before .args .d + c .before .before .before .before .before .before .before .before .before .before .before .before .before .before .before .args .d) (c .before .before .before .before .start .result) (c .before .before .before .before .before .before .before .before .pass-gram .last .0) (c .before .before .before .before .start .ensures)
 
 try-draw-part-is-alternating-end : (t : ℕ) → try-draw-lts.Need-part-is-alternating-end (draw-claims t) (try-draw-at t) try-draw.Post
 try-draw-part-is-alternating-end t c = search needs
 
 try-draw-sub-is-alternating-2 : (t : ℕ) → try-draw-lts.Need-sub-is-alternating-2 (draw-claims t) (try-draw-at t) try-draw.Post
-try-draw-sub-is-alternating-2 t c = search needs
+try-draw-sub-is-alternating-2 t c = c .before .before .before .before .before .before .before .before .before .before .before .before .before .before .before .before .pre .1 .0
 
 try-draw-same-length-4 : (t : ℕ) → try-draw-lts.Need-same-length-4 (draw-claims t) (try-draw-at t) try-draw.Post
 try-draw-same-length-4 t c = search needs
@@ -100,10 +100,10 @@ try-draw-mul-try-draws : (t : ℕ) → try-draw-lts.Need-mul-try-draws (draw-cla
 try-draw-mul-try-draws t c = search needs
 
 try-draw-sub-try-draws : (t : ℕ) → try-draw-lts.Need-sub-try-draws (draw-claims t) (try-draw-at t) try-draw.Post
-try-draw-sub-try-draws t c = search needs
+try-draw-sub-try-draws t c = starts-b t (c .before .before .before .before .before .before .before .before .before) (c .before .before .pass-members2 .last .0) (c .before .before .pass-members2 .kept .0) (c .before .before .pass-members2 .ensures .0) (c .before .before .pass-members2 .ensures .1)
 
 try-draw-part-try-draws-start : (t : ℕ) → try-draw-lts.Need-part-try-draws-start (draw-claims t) (try-draw-at t) try-draw.Post
-try-draw-part-try-draws-start t c = search needs
+try-draw-part-try-draws-start t c = starts-b t (c .before .before .before .before .before .before .before .before .before) (c .before .before .pass-members2 .last .0) (c .before .before .pass-members2 .kept .0) (c .before .before .pass-members2 .ensures .0) (c .before .before .pass-members2 .ensures .1)
 
 try-draw-part-try-draws-end : (t : ℕ) → try-draw-lts.Need-part-try-draws-end (draw-claims t) (try-draw-at t) try-draw.Post
 try-draw-part-try-draws-end t c = search needs
@@ -112,16 +112,16 @@ try-draw-mul-try-draws-2 : (t : ℕ) → try-draw-lts.Need-mul-try-draws-2 (draw
 try-draw-mul-try-draws-2 t c = search needs
 
 try-draw-sub-try-draws-2 : (t : ℕ) → try-draw-lts.Need-sub-try-draws-2 (draw-claims t) (try-draw-at t) try-draw.Post
-try-draw-sub-try-draws-2 t c = search needs
+try-draw-sub-try-draws-2 t c = lent-within (c .before .before .before .before .before .before .before .before .before .before .before .before .before .before .before .before .before .before .before .before .before .before .before .args .d + c .before .before .before .before .before .before .before .before .before .before .before .before .before .before .before .before .before .before .before .before .before .before .before .args .d) (c .before .before .before .before .before .before .before .before .before .before .before .before .start .result) (c .before .before .before .before .before .before .before .before .before .before .before .before .before .before .before .before .pass-gram .last .0) (c .before .before .before .before .before .before .before .before .before .before .before .before .start .ensures)
 
 try-draw-part-try-draws-start-2 : (t : ℕ) → try-draw-lts.Need-part-try-draws-start-2 (draw-claims t) (try-draw-at t) try-draw.Post
-try-draw-part-try-draws-start-2 t c = search needs
+try-draw-part-try-draws-start-2 t c = lent-within (c .before .before .before .before .before .before .before .before .before .before .before .before .before .before .before .before .before .before .before .before .before .before .before .args .d + c .before .before .before .before .before .before .before .before .before .before .before .before .before .before .before .before .before .before .before .before .before .before .before .args .d) (c .before .before .before .before .before .before .before .before .before .before .before .before .start .result) (c .before .before .before .before .before .before .before .before .before .before .before .before .before .before .before .before .pass-gram .last .0) (c .before .before .before .before .before .before .before .before .before .before .before .before .start .ensures)
 
 try-draw-part-try-draws-end-2 : (t : ℕ) → try-draw-lts.Need-part-try-draws-end-2 (draw-claims t) (try-draw-at t) try-draw.Post
 try-draw-part-try-draws-end-2 t c = search needs
 
 try-draw-sub-try-draws-3 : (t : ℕ) → try-draw-lts.Need-sub-try-draws-3 (draw-claims t) (try-draw-at t) try-draw.Post
-try-draw-sub-try-draws-3 t c = search needs
+try-draw-sub-try-draws-3 t c = c .before .before .before .before .before .before .before .before .before .before .before .before .before .before .before .before .before .before .before .before .before .before .before .before .before .pre .1 .0
 
 try-draw-same-length-6 : (t : ℕ) → try-draw-lts.Need-same-length-6 (draw-claims t) (try-draw-at t) try-draw.Post
 try-draw-same-length-6 t c = search needs
@@ -211,10 +211,10 @@ try-space-enum-told : (t : ℕ) → try-space-lts.Need-enum-told (space-claims t
 try-space-enum-told t c = search needs
 
 try-space-same-length : (t : ℕ) → try-space-lts.Need-same-length (space-claims t) (try-space-at t) try-space.Post
-try-space-same-length t c = search needs
+try-space-same-length t c = c .before .before .before .before .before .before .ask .kept .0
 
 try-space-same-length-2 : (t : ℕ) → try-space-lts.Need-same-length-2 (space-claims t) (try-space-at t) try-space.Post
-try-space-same-length-2 t c = search needs
+try-space-same-length-2 t c = c .before .before .before .before .before .before .ask .kept .1 .0
 
 try-space-same-length-3 : (t : ℕ) → try-space-lts.Need-same-length-3 (space-claims t) (try-space-at t) try-space.Post
 try-space-same-length-3 t c = search needs
@@ -223,13 +223,13 @@ try-space-enum-told-2 : (t : ℕ) → try-space-lts.Need-enum-told-2 (space-clai
 try-space-enum-told-2 t c = search needs
 
 try-space-same-length-4 : (t : ℕ) → try-space-lts.Need-same-length-4 (space-claims t) (try-space-at t) try-space.Post
-try-space-same-length-4 t c = search needs
+try-space-same-length-4 t c = c .before .before .before .before .before .before .before .before .before .before .before .ask .kept .0
 
 try-space-same-length-5 : (t : ℕ) → try-space-lts.Need-same-length-5 (space-claims t) (try-space-at t) try-space.Post
-try-space-same-length-5 t c = search needs
+try-space-same-length-5 t c = c .before .before .before .before .before .before .before .before .before .before .before .ask .kept .1 .0
 
 try-space-same-length-6 : (t : ℕ) → try-space-lts.Need-same-length-6 (space-claims t) (try-space-at t) try-space.Post
-try-space-same-length-6 t c = search needs
+try-space-same-length-6 t c = c .before .before .note .kept .0
 
 try-space-enum-told-3 : (t : ℕ) → try-space-lts.Need-enum-told-3 (space-claims t) (try-space-at t) try-space.Post
 try-space-enum-told-3 t c = search needs
@@ -238,22 +238,22 @@ try-space-enum-told-4 : (t : ℕ) → try-space-lts.Need-enum-told-4 (space-clai
 try-space-enum-told-4 t c = search needs
 
 try-space-same-length-7 : (t : ℕ) → try-space-lts.Need-same-length-7 (space-claims t) (try-space-at t) try-space.Post
-try-space-same-length-7 t c = search needs
+try-space-same-length-7 t c = c .before .before .before .before .before .before .before .before .before .before .before .before .before .try-draws .kept .0 ∙ c .before .before .before .before .before .before .before .before .before .before .before .before .before .before .before .before .before .before .before .before .before .before .before .ask .kept .0
 
 try-space-same-length-8 : (t : ℕ) → try-space-lts.Need-same-length-8 (space-claims t) (try-space-at t) try-space.Post
-try-space-same-length-8 t c = search needs
+try-space-same-length-8 t c = c .before .before .before .before .before .before .before .before .before .before .before .before .before .try-draws .kept .1 .0 ∙ c .before .before .before .before .before .before .before .before .before .before .before .before .before .before .before .before .before .before .before .before .before .before .before .ask .kept .1 .0
 
 try-space-same-length-9 : (t : ℕ) → try-space-lts.Need-same-length-9 (space-claims t) (try-space-at t) try-space.Post
-try-space-same-length-9 t c = search needs
+try-space-same-length-9 t c = c .before .before .note2 .kept .0 ∙ c .before .before .before .before .before .before .before .before .before .before .before .before .before .try-draws .kept .1 .1 .0
 
 try-space-same-length-10 : (t : ℕ) → try-space-lts.Need-same-length-10 (space-claims t) (try-space-at t) try-space.Post
-try-space-same-length-10 t c = search needs
+try-space-same-length-10 t c = c .before .before .before .before .before .before .before .try-draws .kept .0 ∙ c .before .before .before .before .before .before .before .before .before .before .before .before .before .before .before .before .before .ask .kept .0
 
 try-space-same-length-11 : (t : ℕ) → try-space-lts.Need-same-length-11 (space-claims t) (try-space-at t) try-space.Post
-try-space-same-length-11 t c = search needs
+try-space-same-length-11 t c = c .before .before .before .before .before .before .before .try-draws .kept .1 .0 ∙ c .before .before .before .before .before .before .before .before .before .before .before .before .before .before .before .before .before .ask .kept .1 .0
 
 try-space-same-length-12 : (t : ℕ) → try-space-lts.Need-same-length-12 (space-claims t) (try-space-at t) try-space.Post
-try-space-same-length-12 t c = search needs
+try-space-same-length-12 t c = c .before .before .before .before .before .before .before .try-draws .kept .1 .1 .0
 
 pub +try-draw+try-draws+try-space-spec : {M : Type 1} → statement M
 +try-draw+try-draws+try-space-spec = close μ-try-draw μ-try-draws μ-try-space (λ t. try-draw-lts.spec (draw-claims t)

@@ -14,7 +14,7 @@ use Rattle.triangular.specs.Spaces.{isAlternating}
 use Rattle.triangular.specs.Memory.{Entry, reducedBasis, holds}
 use Rattle.triangular.proofs.Entries.{reduced-size}
 use Rattle.memory.specs.Entries.{roomIn, heldIn}
-use Rattle.memory.specs.Kept.{Kept}
+use Rattle.memory.specs.inner.Kept.{Kept}
 use Rattle.memory.proofs.Kept.{kept-held}
 use Rattle.search.specs.inner.Levels.{gramOf}
 use Rattle.search.proofs.Reported.{alternates}

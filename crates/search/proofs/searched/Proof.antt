@@ -25,7 +25,7 @@ use Rattle.residue.proofs.Forms.{formOf}
 use Rattle.triangular.proofs.Narrow.{narrow-search}
 use Rattle.triangular.proofs.Verdicts.{found-basis, no-basis, verdict-own}
 use Rattle.memory.specs.Entries.{memoryWords, roomIn}
-use Rattle.memory.specs.Kept.{Kept}
+use Rattle.memory.specs.inner.Kept.{Kept}
 use Rattle.memory.proofs.Kept.{kept-none, kept-over}
 use Rattle.search.specs.inner.Levels.{foundIn, gramOf}
 use Rattle.search.specs.inner.Reports.{Space, Grew, Reports}

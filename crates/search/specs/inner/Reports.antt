@@ -10,7 +10,7 @@ use Rattle.triangular.specs.declared.Ending.{Ending}
 use Rattle.triangular.specs.Search.{budgeted}
 use Rattle.triangular.specs.Memory.{Entry, Remembered, knownWithin}
 use Rattle.triangular.specs.Readings.{verdictOf}
-use Rattle.memory.specs.Kept.{Kept}
+use Rattle.memory.specs.inner.Kept.{Kept}
 use Rattle.search.specs.inner.Levels.{gramOf}
 
 -- the first d rows are members of a space and their Gram matrix by the core E

@@ -22,7 +22,7 @@ use Rattle.triangular.specs.Memory.{Entry, reducedBasis, holds, enter, drawsWit
 use Rattle.triangular.proofs.Ending.{the-type}
 use Rattle.triangular.proofs.Entries.{reduced-size, reduced-within}
 use Rattle.memory.specs.Entries.{roomIn, entered}
-use Rattle.memory.specs.Kept.{Fits, Kept}
+use Rattle.memory.specs.inner.Kept.{Fits, Kept}
 use Rattle.memory.proofs.Kept.{room-same}
 use Rattle.search.specs.declared.Asked.{Asked}
 use Rattle.search.specs.declared.Asked.the-variants.{Held, Alternating, Open}

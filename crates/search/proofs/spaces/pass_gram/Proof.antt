@@ -13,8 +13,8 @@ use Rattle.blocks.specs.Words.{rowsIn}
 use Rattle.search.specs.inner.Levels.{passedAt, shrunk}
 use Rattle.search.proofs.Levels.{front-get, passed-is, digit-next, Behind, behind-next}
 use borrow.Author.Needs.{needs}
-use Rattle.search.proofs.pass_gram.Statement.{statement}
-use Rattle.search.proofs.pass_gram.Tie as tie
+use Rattle.search.proofs.spaces.pass_gram.Statement.{statement}
+use Rattle.search.proofs.spaces.pass_gram.Tie as tie
 
 abbrev Inv-loop : tie.InvT-loop
 Inv-loop gram₀ d h j to last m x₀ r₀ i₀ gram x r i = (i ≤ last) × (length gram ≡ length gram₀) × Behind (j < d) (λ n. shrunk j (val h) (passedAt (val h) j (take d (rowsIn gram₀)) n)) d (rowsIn gram₀) (rowsIn gram) i

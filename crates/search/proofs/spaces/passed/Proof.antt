@@ -5,8 +5,8 @@ use Rattle.binar.specs.Bits.{select, _⊕_}
 use Rattle.binar.specs.Rows.{val}
 use Rattle.search.specs.inner.Levels.{keptOr}
 use borrow.Author.Needs.{needs}
-use Rattle.search.proofs.passed.Statement.{statement}
-use Rattle.search.proofs.passed.Tie as tie
+use Rattle.search.proofs.spaces.passed.Statement.{statement}
+use Rattle.search.proofs.spaces.passed.Tie as tie
 
 returns : tie.Need-returns
 returns c =

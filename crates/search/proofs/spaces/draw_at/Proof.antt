@@ -8,8 +8,8 @@ use Rattle.blocks.specs.Matrices.{times}
 use Rattle.blocks.specs.Words.{rowsIn}
 use Rattle.blocks.proofs.Lent.{lent-few, lent-part, words-mono}
 use borrow.Author.Needs.{needs}
-use Rattle.search.proofs.draw_at.Statement.{statement}
-use Rattle.search.proofs.draw_at.Tie as tie
+use Rattle.search.proofs.spaces.draw_at.Statement.{statement}
+use Rattle.search.proofs.spaces.draw_at.Tie as tie
 
 start-requires : tie.Need-start-requires
 start-requires c κs = search needs

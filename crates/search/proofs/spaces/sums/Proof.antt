@@ -15,8 +15,8 @@ use Rattle.blocks.proofs.Products.{times-zero}
 use Rattle.search.proofs.Drawing.{summed-more}
 use Rattle.search.proofs.Levels.{front-row, put-next}
 use borrow.Author.Needs.{needs}
-use Rattle.search.proofs.sums.Statement.{statement}
-use Rattle.search.proofs.sums.Tie as tie
+use Rattle.search.proofs.spaces.sums.Statement.{statement}
+use Rattle.search.proofs.spaces.sums.Tie as tie
 
 abbrev Inv-loop : tie.InvT-loop
 Inv-loop w₀ d s₀ i₀ w s i = (i ≤ d) × (length w ≡ length w₀) × (length (rowsIn w) ≡ length (rowsIn w₀)) × (take d (rowsIn w) ≡ take d (rowsIn w₀)) × (val s ≡ times (2 ^ i - 1) (take d (rowsIn w₀)))

@@ -13,8 +13,8 @@ use Rattle.blocks.specs.Words.{rowsIn}
 use Rattle.search.specs.inner.Levels.{passedAt}
 use Rattle.search.proofs.Levels.{front-get, passed-is, digit-next, Behind, behind-next}
 use borrow.Author.Needs.{needs}
-use Rattle.search.proofs.pass_members.Statement.{statement}
-use Rattle.search.proofs.pass_members.Tie as tie
+use Rattle.search.proofs.spaces.pass_members.Statement.{statement}
+use Rattle.search.proofs.spaces.pass_members.Tie as tie
 
 abbrev Inv-loop : tie.InvT-loop
 Inv-loop basis₀ d j to last m x₀ h i₀ basis x r i = (i ≤ last) × (length basis ≡ length basis₀) × Behind (j < d) (passedAt (val h) j (take d (rowsIn basis₀))) d (rowsIn basis₀) (rowsIn basis) i

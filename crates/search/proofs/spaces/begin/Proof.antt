@@ -18,8 +18,8 @@ use Rattle.triangular.proofs.Cores.{core-in}
 use Rattle.search.proofs.Grams.{gram-length, gram-units}
 use Rattle.search.proofs.Levels.{levels-least}
 use borrow.Author.Needs.{needs}
-use Rattle.search.proofs.begin.Statement.{statement}
-use Rattle.search.proofs.begin.Tie as tie
+use Rattle.search.proofs.spaces.begin.Statement.{statement}
+use Rattle.search.proofs.spaces.begin.Tie as tie
 
 gram-size : (E : List ℕ) (k : ℕ) → length (gramOf E (units k)) ≡ k
 gram-size E k = gram-length E (units k) (gramOf E (units k)) refl ∙ units-length k

@@ -13,8 +13,8 @@ use Rattle.blocks.proofs.Overs.{over-next, over-end}
 use Rattle.search.specs.inner.Levels.{levels, foundIn}
 use Rattle.search.proofs.Levels.{levels-step, levels-least, found-length, collect-draw, collect-next}
 use borrow.Author.Needs.{needs}
-use Rattle.search.proofs.collected.Statement.{statement}
-use Rattle.search.proofs.collected.Tie as tie
+use Rattle.search.proofs.spaces.collected.Statement.{statement}
+use Rattle.search.proofs.spaces.collected.Tie as tie
 
 abbrev Inv-loop : tie.InvT-loop
 Inv-loop basis k list₀ n at₀ i₀ list at i = (i ≤ n) × (length list ≡ length list₀) × (at + levels (k - i) ≡ levels k) × (drop i (foundIn k (rowsIn basis)) ≡ foundIn (k - i) (drop at (rowsIn basis)))

@@ -6,8 +6,8 @@ use Rattle.binar.specs.Bits.{select, _⊕_}
 use Rattle.binar.specs.Rows.{val}
 use Rattle.search.specs.inner.Levels.{withoutColumn, shrunk}
 use borrow.Author.Needs.{needs}
-use Rattle.search.proofs.shrunk.Statement.{statement}
-use Rattle.search.proofs.shrunk.Tie as tie
+use Rattle.search.proofs.spaces.shrunk.Statement.{statement}
+use Rattle.search.proofs.spaces.shrunk.Tie as tie
 
 bit-requires : tie.Need-bit-requires
 bit-requires c κs = search needs

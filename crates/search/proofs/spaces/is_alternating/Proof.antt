@@ -18,8 +18,8 @@ use Rattle.search.specs.inner.Levels.{gramOf}
 use Rattle.triangular.proofs.Alternates.{beq-differ, symmetric-start, symmetric-next, alternating-start, alternating-next, fails-diagonal, fails-pair}
 use Rattle.search.proofs.Grams.{lent-length, lent-bit}
 use borrow.Author.Needs.{needs}
-use Rattle.search.proofs.is_alternating.Statement.{statement}
-use Rattle.search.proofs.is_alternating.Tie as tie
+use Rattle.search.proofs.spaces.is_alternating.Statement.{statement}
+use Rattle.search.proofs.spaces.is_alternating.Tie as tie
 
 abbrev Inv-loop : tie.InvT-loop
 Inv-loop gram d i₀ j₀ i j = (i ≤ d) × (j ≤ i)
