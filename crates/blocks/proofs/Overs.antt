@@ -3,11 +3,11 @@
 use mathlib.Core.Path.{_≡_, refl, sym, ap, ap₂, _∙_}
 use mathlib.Core.List.{List, [], _∷_, _++_, append-nil}
 use Prim.Native.Nat.{ℕ, zero, suc, _+_, _-_, _≤_, _<_, min}
-use native.Mathlib.Nat.{le-refl}
+use native.Mathlib.Nat.{le-refl, le-of-suc-le-suc, not-suc-le-zero}
 use native.Mathlib.Numerals.{add-one}
 use native.Mathlib.Omega.{arith}
 use lib.ListN.{length, getD, set, take, drop, length-append, length-drop, length-take, drop-of-length-le}
-use lib.Seq.{take-all, take-at, take-suc, set-at, drop-cons, append-snoc, length-take-le, getD-append-add, getD-drop}
+use lib.Seq.{take-all, take-at, take-suc, set-at, drop-cons, append-snoc, length-take-le, getD-append-add, getD-drop, getD-take}
 use Rattle.blocks.specs.Words.{over}
 
 -- ---- the first i members of m before the others of l, of any kind
@@ -67,3 +67,18 @@ over-end (r ∷ rows) (w ∷ out) (suc k) e = ap (λ (m : List ℕ). r ∷ m) (o
 pub over-same : (rows out : List ℕ) → length rows ≡ length out → over rows out ≡ rows
 over-same rows out e =
     sym (over-end rows out (length rows) (omega arith)) ∙ over-whole 0 rows out (length rows) (le-refl (length rows)) (omega arith)
+
+pub over-no-room : (rows : List ℕ) → over rows [] ≡ []
+unfolding over
+over-no-room rows = refl
+
+-- one more of the first i, as far as there is room
+pub over-put : (rows out : List ℕ) (i : ℕ) → i < length rows → set (over (take i rows) out) i (getD rows i 0) ≡ over (take (suc i) rows) out
+unfolding over
+over-put [] out i h = absurd (not-suc-le-zero h)
+over-put (r ∷ rows) [] i h = refl
+over-put (r ∷ rows) (w ∷ out) zero h = ap (λ (l : List ℕ). set l 0 r) (over-nil (w ∷ out)) ∙ ap (λ (l : List ℕ). r ∷ l) (sym (over-nil out))
+over-put (r ∷ rows) (w ∷ out) (suc i) h = ap (λ (l : List ℕ). r ∷ l) (over-put rows out i (le-of-suc-le-suc h))
+
+pub over-at : (rows out : List ℕ) → length rows ≤ length out → (i : ℕ) → i < length rows → getD (over rows out) i 0 ≡ getD rows i 0
+over-at rows out room i h = sym (getD-take (length rows) (over rows out) i 0 h) ∙ ap (λ (l : List ℕ). getD l i 0) (over-front rows out room)

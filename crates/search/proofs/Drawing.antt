@@ -2,33 +2,21 @@
 -- Assumes nothing.
 use mathlib.Core.Path.{_≡_, sym, ap, ap₂, _∙_, subst}
 use mathlib.Core.List.{List}
-use Prim.Native.Nat.{ℕ, suc, _+_, _-_, _*_, _%_, _^_, _≤_, _<_}
-use native.Mathlib.Nat.{one-mul, pow-suc, mod-eq-of-lt}
+use Prim.Native.Nat.{ℕ, suc, _+_, _-_, _%_, _^_, _≤_, _<_}
+use native.Mathlib.Nat.{mod-eq-of-lt}
 use native.Mathlib.Omega.{arith}
-use lib.ListN.{getD}
-use lib.Pow.{pow-pos, ones-lt}
+use lib.Pow.{pow-pos}
 use borrow.Author.Tests.{ne-eqb}
 use Rattle.binar.specs.Bits.{_⊕_}
 use Rattle.binar.specs.Rows.{width, rowBound, lowest}
-use Rattle.binar.proofs.Sums.{parts-sum, sum-comm}
 use Rattle.binar.proofs.Widths.{pow-bound}
 use Rattle.binar.proofs.Counting.{next-flips}
 use Rattle.blocks.specs.Matrices.{times}
-use Rattle.blocks.proofs.Products.{times-sum, times-unit, lowest-row}
+use Rattle.blocks.proofs.Products.{times-sum, lowest-row}
 
 -- the last coefficient
 pub ones-last : (d x : ℕ) → d ≤ width → x ≡ (2 ^ d - 1) % rowBound → x ≡ 2 ^ d - 1
 ones-last d x h e = e ∙ mod-eq-of-lt (omega (arith, pow-bound d h, pow-pos d))
-
--- ---- the sums of the first members
-
-pub summed-more : (M : List ℕ) (k : ℕ) → times (2 ^ k - 1) M ⊕ getD M k 0 ≡ times (2 ^ suc k - 1) M
-summed-more M k =
-    let e : 2 ^ suc k - 1 ≡ 1 * 2 ^ k + (2 ^ k - 1) = omega (arith, pow-suc 2 k, one-mul (2 ^ k), pow-pos k) in
-    sym (
-    ap (λ t. times t M) (e ∙ sym (parts-sum k 1 (2 ^ k - 1) (ones-lt k)) ∙ ap (λ t. t ⊕ (2 ^ k - 1)) (one-mul (2 ^ k)) ∙ sum-comm (2 ^ k) (2 ^ k - 1))
-    ∙ times-sum M (2 ^ k - 1) (2 ^ k) ∙ ap (λ t. times (2 ^ k - 1) M ⊕ t) (times-unit k M)
-    )
 
 -- ---- one draw: c is behind, x comes next, last is the last of d members
 

@@ -1,12 +1,12 @@
 -- One draw of a search in lent rows: what its steps leave behind the level is the rest that the draw passes on.
 -- Assumes nothing.
-use mathlib.Core.Path.{_≡_, refl, sym, _∙_, subst}
+use mathlib.Core.Path.{_≡_, refl, sym, _∙_}
 use mathlib.Core.Bool.{true}
 use mathlib.Core.List.{List, _++_}
 use Prim.Native.Nat.{ℕ, _+_, _-_, _^_, _≤_, _<_}
 use native.Mathlib.Nat.{le-refl}
 use native.Mathlib.Omega.{arith}
-use lib.ListN.{length, getD, take, drop, length-drop}
+use lib.ListN.{length, take, drop, length-drop}
 use lib.Seq.{length-take-le}
 use Rattle.binar.specs.Bits.{dot}
 use Rattle.binar.specs.Rows.{width, lowest}
@@ -17,10 +17,12 @@ use Rattle.residue.specs.Residue.{form}
 use Rattle.residue.proofs.Forms.{form-right}
 use Rattle.triangular.specs.Spaces.{complement}
 use Rattle.triangular.proofs.Complements.{complement-in}
-use Rattle.search.specs.inner.Levels.{levels, passedAt, gramOf, shrunk}
-use Rattle.search.proofs.Grams.{gram-length}
-use Rattle.search.proofs.Levels.{levels-step, levels-least, levels-behind, level-rows, back-front}
-use Rattle.search.proofs.Passing.{first-hit, rest-length, passed-rest, passed-gram}
+use Rattle.spaces.specs.Levels.{counted, gramOf, membersPassed, gramPassed}
+use Rattle.search.specs.inner.Levels.{levels}
+use Rattle.spaces.proofs.Grams.{gram-length}
+use Rattle.spaces.proofs.Levels.{members-front, members-at, gram-front, gram-at}
+use Rattle.search.proofs.LentLevels.{levels-step, levels-least, levels-behind, level-rows, back-front}
+use Rattle.spaces.proofs.Passing.{rest-length, passed-rest, passed-gram}
 
 -- what is known once the Gram rows are passed on (g₂)
 pub record Drawn (d : ℕ) (b₀ g₀ : List ℕ) (g j : ℕ) (g₂ : List ℕ) : Type 0 where
@@ -30,14 +32,12 @@ pub record Drawn (d : ℕ) (b₀ g₀ : List ℕ) (g j : ℕ) (g₂ : List ℕ) 
   pub g-room : levels d ≤ length g₀
   pub column : j ≡ lowest g
   pub g₂-long : length g₂ ≡ length g₀
-  pub g₂-front : take (d + d) g₂ ≡ take (d + d) g₀
-  pub g₂-rows : j < d → (i : ℕ) → i < d - 1 → getD g₂ (d + d + i) 0 ≡ shrunk j g (passedAt g j (take d g₀) i)
+  pub g₂-is : g₂ ≡ gramPassed g j (counted d) g₀
 
 -- the members are passed on too (b₁)
 pub record Moved (d : ℕ) (b₀ : List ℕ) (g j : ℕ) (b₁ : List ℕ) : Type 0 where
   pub b₁-long : length b₁ ≡ length b₀
-  pub b₁-front : take (d + d) b₁ ≡ take (d + d) b₀
-  pub b₁-rows : j < d → (i : ℕ) → i < d - 1 → getD b₁ (d + d + i) 0 ≡ passedAt g j (take d b₀) i
+  pub b₁-is : b₁ ≡ membersPassed g j (counted d) b₀
 
 module _ (d : ℕ) (b₀ g₀ : List ℕ) (g j : ℕ) (g₂ : List ℕ) (s : Drawn d b₀ g₀ g j g₂) where
   behind-g : d + d + (d - 1) ≤ length g₂
@@ -46,9 +46,12 @@ module _ (d : ℕ) (b₀ g₀ : List ℕ) (g j : ℕ) (g₂ : List ℕ) (s : Dra
   pub room-g : levels (d - 1) ≤ length (drop (d + d) g₂)
   room-g = omega (arith, length-drop (d + d) g₂, levels-step d (s .some), s .g₂-long, s .g-room)
 
+  pub gram-front-kept : take (d + d) g₂ ≡ take (d + d) g₀
+  gram-front-kept = gram-front d g₀ g₂ (s .fits) g j (s .g₂-is)
+
   -- the level's own rows stay, whatever comes back behind it
   pub gram-kept : (ys : List ℕ) → take (d + d) (take (d + d) g₂ ++ ys) ≡ take (d + d) g₀
-  gram-kept ys = back-front (d + d) g₂ ys (omega (arith, behind-g)) (d + d) (le-refl (d + d)) ∙ s .g₂-front
+  gram-kept ys = back-front (d + d) g₂ ys (omega (arith, behind-g)) (d + d) (le-refl (d + d)) ∙ gram-front-kept
 
   -- the draw by its coefficients c
   module _ (E : List ℕ) (c : ℕ) (is : gramOf E (take d b₀) ≡ take d g₀) (sum : g ≡ times c (take d g₀)) (on : dot c g ≡ true) where
@@ -58,16 +61,13 @@ module _ (d : ℕ) (b₀ g₀ : List ℕ) (g j : ℕ) (g₂ : List ℕ) (s : Dra
     size : length (take d b₀) ≡ d
     size = length-take-le d b₀ (omega (arith, levels-least d, s .b-room))
 
-    inside : j < d
-    inside = subst (λ n. j < n) size (first-hit d (s .fits) E (take d b₀) (take d g₀) size is c g j sum on (s .column) .inside)
-
     short : length rest ≡ d - 1
     short = rest-length d (s .fits) E (take d b₀) (take d g₀) size is c g j sum on (s .column)
 
     pub rest-gram : gramOf E rest ≡ take (d - 1) (drop (d + d) g₂)
     rest-gram =
         sym (level-rows (d - 1) (d + d) g₂ (gramOf E rest) behind-g (gram-length E rest (gramOf E rest) refl ∙ short)
-        (λ i l. s .g₂-rows inside i l ∙ passed-gram d (s .fits) E (take d b₀) (take d g₀) size is c g j sum on (s .column) i l))
+        (λ i l. gram-at d g₀ g₂ (s .fits) g j (s .g₂-is) (omega (arith, levels-behind d (s .some), s .g-room)) i l ∙ passed-gram d (s .fits) E (take d b₀) (take d g₀) size is c g j sum on (s .column) i l))
 
     pub rest-small : All (λ v. v < 2 ^ width) (take d b₀) → All (λ v. v < 2 ^ width) rest
     rest-small small =
@@ -82,7 +82,7 @@ module _ (d : ℕ) (b₀ g₀ : List ℕ) (g j : ℕ) (g₂ : List ℕ) (s : Dra
     room-b = omega (arith, length-drop (d + d) b₁, levels-step d (s .some), m .b₁-long, s .b-room)
 
     pub basis-kept : (ys : List ℕ) → take (d + d) (take (d + d) b₁ ++ ys) ≡ take (d + d) b₀
-    basis-kept ys = back-front (d + d) b₁ ys (omega (arith, behind-b)) (d + d) (le-refl (d + d)) ∙ m .b₁-front
+    basis-kept ys = back-front (d + d) b₁ ys (omega (arith, behind-b)) (d + d) (le-refl (d + d)) ∙ members-front d b₀ b₁ (s .fits) g j (m .b₁-is)
 
     pub within-b : d + d ≤ length b₁
     within-b = omega (arith, behind-b)
@@ -91,5 +91,5 @@ module _ (d : ℕ) (b₀ g₀ : List ℕ) (g j : ℕ) (g₂ : List ℕ) (s : Dra
       pub child : take (d - 1) (drop (d + d) b₁) ≡ rest E c is sum on
       child =
           level-rows (d - 1) (d + d) b₁ (rest E c is sum on) behind-b (short E c is sum on)
-          (λ i l. m .b₁-rows (inside E c is sum on) i l
+          (λ i l. members-at d b₀ b₁ (s .fits) g j (m .b₁-is) (omega (arith, levels-behind d (s .some), s .b-room)) i l
           ∙ passed-rest d (s .fits) E (take d b₀) (take d g₀) (size E c is sum on) is c g j sum on (s .column) i l)

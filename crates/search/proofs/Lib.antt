@@ -1,8 +1,5 @@
 pub mod Drawing
-pub mod Grams
-pub mod Shrinks
-pub mod Passing
-pub mod Levels
+pub mod LentLevels
 pub mod Reduces
 pub mod Draws
 pub mod Reported

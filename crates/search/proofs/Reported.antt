@@ -1,14 +1,12 @@
 -- What the functions of a search tell, from what is known of a search with a memory cut at a budget.
 -- Assumes nothing.
-use mathlib.Core.Path.{_≡_, refl, sym, ap, ap₂, _∙_, subst}
-use mathlib.Core.Bool.{Bool, true, false, _&&_, and-true}
+use mathlib.Core.Path.{_≡_, refl, sym, ap, _∙_, subst}
+use mathlib.Core.Bool.{Bool, true, false}
 use mathlib.Core.Logic.{_⊎_, inl, inr, ⊎-elim}
-use mathlib.Core.List.{List, [], _∷_, _++_}
+use mathlib.Core.List.{List, [], _++_}
 use Prim.Native.Nat.{ℕ, _+_, _-_, _^_, _≤_, _<_}
 use native.Mathlib.Nat.{le-refl, le-trans}
 use native.Mathlib.Omega.{arith}
-use borrow.Author.Tests.{lt-ltb}
-use lib.Dec.{ltb}
 use lib.ListN.{length, take, drop}
 use lib.Seq.{drop-drop}
 use Rattle.binar.specs.Rows.{width}
@@ -16,7 +14,7 @@ use Rattle.triangular.specs.declared.Ending.{Ending}
 use Rattle.triangular.specs.declared.Ending.the-variants.{Found, Failed, Spent}
 use Rattle.triangular.specs.Spaces.{isAlternating}
 use Rattle.triangular.specs.Memory.{Entry, reducedBasis, holds, enter, Remembered, drawsWith, searchWith, knownWithin}
-use Rattle.triangular.specs.Search.{ended, found, failed}
+use Rattle.triangular.specs.Search.{ended, failed}
 use Rattle.triangular.specs.Readings.{verdictOf}
 use Rattle.triangular.proofs.Entries.{Stamped, holds-none}
 use Rattle.triangular.proofs.Budgets.{Told, says-found, says-failed, space-empty, space-held, space-alternating, open-found, open-spent, open-failed}
@@ -26,10 +24,6 @@ use Rattle.memory.proofs.Kept.{kept-entered, entered-rest}
 use Rattle.search.specs.inner.Reports.{Grew, Reports}
 
 -- ---- answers of the code
-
--- of a space with members, whether it is alternating
-pub alternates : (t x : Bool) (d : ℕ) → 0 < d → t ≡ (x && ltb 0 d) → x ≡ t
-alternates t x d h e = sym (e ∙ ap (λ y. x && y) (lt-ltb 0 d h) ∙ and-true x)
 
 pub found-not-failed : Found ≡ Failed → ⊥
 found-not-failed e = let z : _≡_ {A = ℕ} 0 1 = ap tag e in absurd (omega arith)

@@ -1,10 +1,10 @@
 // The search for a basis that makes the core triangular, draw by draw under a budget, with a memory of spaces that failed.
-// In the source: transvection_exact.rs, `is_alternating`, `SpanVectors`, `right_orthogonal_complement`, `triangularize_subspace`, `congruence_triangularize`.
+// In the source: transvection_exact.rs, `triangularize_subspace`, `congruence_triangularize`.
 // A space stands in two lent slices: the members of its basis, and its Gram matrix, in row i the forms of member i with each member. In
 // dimension d these are d rows of each; d more are for the sums of the first Gram rows, and behind the members for their reduced basis,
 // then, where the space has a good basis, for the draw by its coefficients. Behind them stands, in the same way, the space that the draw
 // passes on.
-mod spaces; // spaces.rt: what is done to a space in its slices
+mod levels; // levels.rt: the first space, the reduced basis of one, and the draws that are kept
 
 use binar::Row;
 use binar::WIDTH;
@@ -27,7 +27,8 @@ ghost use Rattle.triangular.specs.Memory.{Entry, reducedBasis, holds, drawsWith
 ghost use Rattle.triangular.specs.Readings.{coreIn, verdictOf, basisFound};
 ghost use Rattle.memory.specs.Entries.{memoryWords, roomIn, entered, taken};
 ghost use Rattle.memory.specs.inner.Kept.{Kept};
-ghost use Rattle.search.specs.inner.Levels.{levels, foundIn, gramOf};
+ghost use Rattle.spaces.specs.Levels.{gramOf};
+ghost use Rattle.search.specs.inner.Levels.{levels, foundIn};
 ghost use Rattle.search.specs.inner.Reports.{Space, Carries, Grew, Reports};
 ghost use Rattle.search.specs.inner.Asked.{Known};
 
@@ -59,7 +60,7 @@ fn ask(basis: &mut [u64], gram: &mut [u64], memory: &[u64], d: usize, used: usiz
         × ((E : List ℕ) (M : List Entry) → gramOf E (take d (rowsIn (now (basis .entry)))) ≡ take d (rowsIn (now (gram .entry))) → Kept (now (memory .entry)) used M
         → Known r (holds d (reducedBasis width (take d (rowsIn (now (basis .entry))))) M) (isAlternating (form E) (take d (rowsIn (now (basis .entry)))))) ⌝ }
 {
-    spaces::put_reduced(basis, gram, d);
+    levels::put_reduced(basis, gram, d);
     let b = blocks::start(&basis[..], d);
     let c = blocks::start(&basis[..], d + d);
     if memory::holds(&memory[..used], &basis[b..c]) {
@@ -284,7 +285,7 @@ fn searched(
     ensures left { λ r. ⌜ rowsIn (now (list .exit)) ≡ over (basisFound (budgeted budget (searchedCore (coreIn (now (core .entry))) (roomIn (now (memory .entry))) .outcome))) (rowsIn (now (list .entry))) ⌝ }
     ensures remembered { λ r. ⌜ now (memory .exit) ≡ over (memoryWords (knownWithin budget (searchedCore (coreIn (now (core .entry))) (roomIn (now (memory .entry))) .memory))) (now (memory .entry)) ⌝ }
 {
-    spaces::begin(basis, gram, core, k);
+    levels::begin(basis, gram, core, k);
     if k == 0 {
         return Ended {
             ending: Ending::Found,
@@ -296,7 +297,7 @@ fn searched(
     let e = o.ending;
     match e {
         Ending::Found => {
-            spaces::collected(&basis[..], k, list);
+            levels::collected(&basis[..], k, list);
             return Ended {
                 ending: Ending::Found,
                 looks: looks,

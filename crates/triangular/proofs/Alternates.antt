@@ -6,6 +6,7 @@ use mathlib.Core.List.{List, [], _∷_, _++_}
 use Prim.Native.Nat.{ℕ, zero, suc, _+_, _<_}
 use native.Mathlib.Nat.{not-suc-le-zero, le-of-suc-le-suc}
 use native.Mathlib.Numerals.{add-one}
+use native.Mathlib.Omega.{arith}
 use lib.ListN.{length, take, getD}
 use lib.Seq.{take-suc}
 use borrow.Author.Tests.{not-true}
@@ -115,6 +116,30 @@ module _ (E : ℕ → ℕ → Bool) where
       → E (getD bs i 0) (getD bs i 0) ≡ false → symmetricWith E (getD bs i 0) (take i bs) ≡ true → isAlternating E (take (i + 1) bs) ≡ true
   alternating-next bs i a h e s =
       ap (isAlternating E) (ap (λ n. take n bs) (add-one i) ∙ take-suc bs i 0 h) ∙ alternating-snoc (take i bs) (getD bs i 0) a e s
+
+-- ---- by what the form says of each two members
+
+module _ (E F : ℕ → ℕ → Bool) where
+  symmetric-alike : (b c : ℕ) (ys zs : List ℕ) → length ys ≡ length zs → ((j : ℕ) → j < length ys → (E b (getD ys j 0) ≡ F c (getD zs j 0)) × (E (getD ys j 0) b ≡ F (getD zs j 0) c))
+      → symmetricWith E b ys ≡ symmetricWith F c zs
+  unfolding symmetricWith
+  symmetric-alike b c [] [] e same = refl
+  symmetric-alike b c [] (z ∷ zs) e same = absurd (omega arith)
+  symmetric-alike b c (y ∷ ys) [] e same = absurd (omega arith)
+  symmetric-alike b c (y ∷ ys) (z ∷ zs) e same =
+      let first = same 0 (omega arith) in
+      ap₂ _&&_ (ap₂ Bool·beq (first .0) (first .1)) (symmetric-alike b c ys zs (omega arith) (λ j h. same (suc j) (omega arith)))
+
+  pub alternating-alike : (bs cs : List ℕ) → length bs ≡ length cs
+      → ((i j : ℕ) → i < length bs → j < length bs → E (getD bs i 0) (getD bs j 0) ≡ F (getD cs i 0) (getD cs j 0)) → isAlternating E bs ≡ isAlternating F cs
+  unfolding isAlternating
+  alternating-alike [] [] e same = refl
+  alternating-alike [] (c ∷ cs) e same = absurd (omega arith)
+  alternating-alike (b ∷ bs) [] e same = absurd (omega arith)
+  alternating-alike (b ∷ bs) (c ∷ cs) e same =
+      ap₂ (λ x y. not x && y) (same 0 0 (omega arith) (omega arith))
+      (ap₂ _&&_ (symmetric-alike b c bs cs (omega arith) (λ j h. (same 0 (suc j) (omega arith) (omega arith), same (suc j) 0 (omega arith) (omega arith))))
+      (alternating-alike bs cs (omega arith) (λ i j h k. same (suc i) (suc j) (omega arith) (omega arith))))
 
 -- ---- on the span
 

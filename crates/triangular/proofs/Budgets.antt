@@ -1,9 +1,8 @@
 -- The search with a memory under a budget, as two functions that call each other take it: one tries a space, draw by draw, the other what one draw passes on.
 -- Assumes nothing.
 use mathlib.Core.Path.{_≡_, refl, sym, ap, ap₂, _∙_, subst}
-use mathlib.Core.Logic.{_⊎_, ⊎-elim}
-use mathlib.Core.Bool.{Bool, true, false, _&&_, and-eq-true-iff, and-true}
-use mathlib.Core.List.{List, [], _∷_, _++_, append-nil}
+use mathlib.Core.Bool.{Bool, true, false}
+use mathlib.Core.List.{List, [], _∷_}
 use Prim.Native.Nat.{ℕ, zero, suc, _+_, _-_, _^_, _≤_, _<_}
 use native.Mathlib.Nat.{le-trans, not-suc-le-zero, lt-of-lt-of-le}
 use native.Mathlib.Numerals.{add-one, sub-one}
@@ -11,13 +10,13 @@ use native.Mathlib.Omega.{arith}
 use borrow.Author.Tests.{lt-leb, le-leb, leb-true, leb-false}
 use lib.Dec.{leb, ltb}
 use lib.ListN.{length}
-use Rattle.blocks.specs.Matrices.{times, All}
+use Rattle.blocks.specs.Matrices.{times}
 use Rattle.blocks.proofs.All.{All·map, All·append}
 use Rattle.triangular.specs.declared.Ending.{Ending}
 use Rattle.triangular.specs.declared.Ending.the-variants.{Found, Failed, Spent}
 use Rattle.triangular.specs.Spaces.{complement, isAlternating}
 use Rattle.triangular.specs.Search.{Outcome, found, failed, looksOf, Verdict, ended, spent, endedIf, budgeted}
-use Rattle.triangular.specs.Memory.{Entry, reducedBasis, holds, enterIf, enter, Remembered, unlessHeld, unlessAlternates, noted, afterRestWith, drawWith, drawsWith, searchWith, keepIf, knownWithin}
+use Rattle.triangular.specs.Memory.{Entry, reducedBasis, holds, enterIf, enter, Remembered, unlessHeld, unlessAlternates, noted, afterRestWith, drawWith, drawsWith, searchWith, knownWithin}
 use Rattle.triangular.specs.Readings.{verdictOf}
 use Rattle.triangular.proofs.Entries.{Stamped, known-all, known-past, stamped-on}
 use Rattle.triangular.proofs.Grows.{Grown, Grows, after-grows, noted-after, draw-grows, draws-grow, search-grows}

@@ -43,10 +43,10 @@ try-draw-mul-try-space : (t : ℕ) → try-draw-lts.Need-mul-try-space (draw-cla
 try-draw-mul-try-space t c = search needs
 
 try-draw-sub-try-space : (t : ℕ) → try-draw-lts.Need-sub-try-space (draw-claims t) (try-draw-at t) try-draw.Post
-try-draw-sub-try-space t c = starts-b t (c .before .before .before .before .before) (c .before .before .pass-members .last .0) (c .before .before .pass-members .kept .0) (c .before .before .pass-members .ensures .0) (c .before .before .pass-members .ensures .1)
+try-draw-sub-try-space t c = starts-b t (c .before .before .before .before .before) (c .before .before .pass-members .last .0) (c .before .before .pass-members .kept .0) (c .before .before .pass-members .ensures)
 
 try-draw-part-try-space-start : (t : ℕ) → try-draw-lts.Need-part-try-space-start (draw-claims t) (try-draw-at t) try-draw.Post
-try-draw-part-try-space-start t c = starts-b t (c .before .before .before .before .before) (c .before .before .pass-members .last .0) (c .before .before .pass-members .kept .0) (c .before .before .pass-members .ensures .0) (c .before .before .pass-members .ensures .1)
+try-draw-part-try-space-start t c = starts-b t (c .before .before .before .before .before) (c .before .before .pass-members .last .0) (c .before .before .pass-members .kept .0) (c .before .before .pass-members .ensures)
 
 try-draw-part-try-space-end : (t : ℕ) → try-draw-lts.Need-part-try-space-end (draw-claims t) (try-draw-at t) try-draw.Post
 try-draw-part-try-space-end t c = search needs
@@ -100,10 +100,10 @@ try-draw-mul-try-draws : (t : ℕ) → try-draw-lts.Need-mul-try-draws (draw-cla
 try-draw-mul-try-draws t c = search needs
 
 try-draw-sub-try-draws : (t : ℕ) → try-draw-lts.Need-sub-try-draws (draw-claims t) (try-draw-at t) try-draw.Post
-try-draw-sub-try-draws t c = starts-b t (c .before .before .before .before .before .before .before .before .before) (c .before .before .pass-members2 .last .0) (c .before .before .pass-members2 .kept .0) (c .before .before .pass-members2 .ensures .0) (c .before .before .pass-members2 .ensures .1)
+try-draw-sub-try-draws t c = starts-b t (c .before .before .before .before .before .before .before .before .before) (c .before .before .pass-members2 .last .0) (c .before .before .pass-members2 .kept .0) (c .before .before .pass-members2 .ensures)
 
 try-draw-part-try-draws-start : (t : ℕ) → try-draw-lts.Need-part-try-draws-start (draw-claims t) (try-draw-at t) try-draw.Post
-try-draw-part-try-draws-start t c = starts-b t (c .before .before .before .before .before .before .before .before .before) (c .before .before .pass-members2 .last .0) (c .before .before .pass-members2 .kept .0) (c .before .before .pass-members2 .ensures .0) (c .before .before .pass-members2 .ensures .1)
+try-draw-part-try-draws-start t c = starts-b t (c .before .before .before .before .before .before .before .before .before) (c .before .before .pass-members2 .last .0) (c .before .before .pass-members2 .kept .0) (c .before .before .pass-members2 .ensures)
 
 try-draw-part-try-draws-end : (t : ℕ) → try-draw-lts.Need-part-try-draws-end (draw-claims t) (try-draw-at t) try-draw.Post
 try-draw-part-try-draws-end t c = search needs

@@ -1,14 +1,16 @@
 -- `ask` looks the space up by its reduced basis, then tests its Gram rows.
 -- Assumes nothing.
-use mathlib.Core.Path.{_≡_, sym, ap, ap₂, subst, _∙_}
+use mathlib.Core.Path.{_≡_, sym, ap, _∙_}
+use mathlib.Core.Bool.{Bool, _&&_}
 use mathlib.Core.List.{List}
-use Prim.Native.Nat.{ℕ, _+_, _-_, _≤_, _<_}
+use Prim.Native.Nat.{ℕ, _+_, _-_, _≤_}
 use native.Mathlib.Omega.{arith}
+use lib.Dec.{ltb}
 use lib.ListN.{length, take, drop}
 use lib.Seq.{length-take-le}
 use Rattle.binar.specs.Rows.{width}
 use Rattle.blocks.specs.Words.{rowsIn}
-use Rattle.blocks.proofs.Lent.{lent-same, lent-within, lent-part, words-mono}
+use Rattle.blocks.proofs.Lent.{lent-same, lent-part, words-mono}
 use Rattle.residue.specs.Residue.{form}
 use Rattle.triangular.specs.Spaces.{isAlternating}
 use Rattle.triangular.specs.Memory.{Entry, reducedBasis, holds}
@@ -16,8 +18,8 @@ use Rattle.triangular.proofs.Entries.{reduced-size}
 use Rattle.memory.specs.Entries.{roomIn, heldIn}
 use Rattle.memory.specs.inner.Kept.{Kept}
 use Rattle.memory.proofs.Kept.{kept-held}
-use Rattle.search.specs.inner.Levels.{gramOf}
-use Rattle.search.proofs.Reported.{alternates}
+use Rattle.spaces.specs.Levels.{below, gramOf, formIn}
+use Rattle.spaces.proofs.Grams.{tested-form}
 use borrow.Author.Needs.{needs}
 use Rattle.search.proofs.ask.Statement.{statement}
 use Rattle.search.proofs.ask.Tie as tie
@@ -52,6 +54,14 @@ module _ (c : tie.After-holds) where
   -- the Gram rows that are tested
   gram-same : (E : List ℕ) → gramOf E members ≡ take d (rowsIn (from .args .gram .now)) → gramOf E members ≡ take d (rowsIn (c .before .before .before .before .before .before .before .before .before .before .before .before .put-reduced .last .1 .0))
   gram-same E e = e ∙ sym (c .before .before .before .before .before .before .before .before .before .before .before .before .put-reduced .ensures .1)
+
+  gram-long : d ≤ length (rowsIn (c .before .before .before .before .before .before .before .before .before .before .before .before .put-reduced .last .1 .0))
+  gram-long = omega (arith, lent-same (c .before .before .before .before .before .before .before .before .before .before .before .before .put-reduced .last .1 .0) (from .args .gram .now) (c .before .before .before .before .before .before .before .before .before .before .before .before .put-reduced .kept .1 .0), from .pre .3)
+
+  -- the test tells
+  tells : (E : List ℕ) → gramOf E members ≡ take d (rowsIn (from .args .gram .now)) → (t : Bool)
+      → t ≡ (isAlternating (formIn (rowsIn (c .before .before .before .before .before .before .before .before .before .before .before .before .put-reduced .last .1 .0))) (below d) && ltb 0 d) → isAlternating (form E) members ≡ t
+  tells E e = tested-form d (rowsIn (c .before .before .before .before .before .before .before .before .before .before .before .before .put-reduced .last .1 .0)) gram-long E members (gram-same E e) (from .pre .0)
 
 put-reduced-requires : tie.Need-put-reduced-requires
 put-reduced-requires c κs = search needs
@@ -95,10 +105,7 @@ returns c =
     (e .0, e .1, e .2, λ E M g k. sym (looked-up (c .before) M k) ∙ c .if1 .taken)
 
 is-alternating-requires : tie.Need-is-alternating-requires
-is-alternating-requires c κs =
-    let s = c .before .before .before .before .before .before .before .before .before .before .before .before .before .before .before .before .before .before .before .before in
-    let o = c .before .before .before .before .before .before .before .before .before .before .before .before .before .before .put-reduced in
-    (s .pre .1, omega (arith, lent-same (o .last .1 .0) (s .args .gram .now) (o .kept .1 .0), s .pre .3))
+is-alternating-requires c κs = search needs
 
 same-length-3 : tie.Need-same-length-3
 same-length-3 c = search needs
@@ -115,7 +122,7 @@ returns-2 c =
       e .2,
       λ E M g k. (
         sym (looked-up at M k) ∙ c .before .before .before .if1 .left,
-        alternates (c .before .is-alternating .result) (isAlternating (form E) (members at)) (d at) (from at .pre .0) (c .before .is-alternating .ensures E (members at) (gram-same at E g)) ∙ c .if2 .taken,
+        tells at E g (c .before .is-alternating .result) (c .before .is-alternating .ensures) ∙ c .if2 .taken,
       ),
     )
 
@@ -134,7 +141,7 @@ returns-3 c =
       e .2,
       λ E M g k. (
         sym (looked-up at M k) ∙ c .before .before .before .if1 .left,
-        alternates (c .before .is-alternating .result) (isAlternating (form E) (members at)) (d at) (from at .pre .0) (c .before .is-alternating .ensures E (members at) (gram-same at E g)) ∙ c .if2 .left,
+        tells at E g (c .before .is-alternating .result) (c .before .is-alternating .ensures) ∙ c .if2 .left,
       ),
     )
 

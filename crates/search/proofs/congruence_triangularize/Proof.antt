@@ -10,7 +10,7 @@ use Rattle.blocks.specs.Words.{rowsIn}
 use Rattle.triangular.specs.Readings.{coreIn}
 use Rattle.triangular.proofs.Cores.{core-in}
 use Rattle.search.specs.inner.Levels.{levels}
-use Rattle.search.proofs.Levels.{levels-fit, levels-8, levels-16, levels-32, levels-64}
+use Rattle.search.proofs.LentLevels.{levels-fit, levels-8, levels-16, levels-32, levels-64}
 use Rattle.search.proofs.congruence_triangularize.Statement.{statement}
 use Rattle.search.proofs.congruence_triangularize.Tie as tie
 

@@ -1,14 +1,12 @@
 -- `note` lends the reduced basis behind the members, and the words of the memory past those in use.
 -- Assumes nothing.
-use mathlib.Core.Path.{_≡_, refl, sym, ap, ap₂, _∙_}
+use mathlib.Core.Path.{_≡_, ap, ap₂, _∙_}
 use mathlib.Core.List.{List, [], _++_, append-nil}
 use Prim.Native.Nat.{ℕ, _+_, _-_, _≤_}
-use native.Mathlib.Nat.{le-refl}
 use native.Mathlib.Omega.{arith}
 use lib.ListN.{length, take, drop, length-drop, drop-of-length-le}
 use lib.Seq.{take-all}
-use Rattle.blocks.specs.Words.{rowsIn}
-use Rattle.blocks.proofs.Lent.{lent-within, lent-part, words-mono}
+use Rattle.blocks.proofs.Lent.{lent-part, words-mono}
 use Rattle.memory.specs.Entries.{entered, taken}
 use Rattle.memory.proofs.Kept.{entered-rest}
 use borrow.Author.Needs.{needs}

@@ -25,11 +25,11 @@ use Rattle.residue.proofs.Forms.{formOf}
 use Rattle.triangular.proofs.Narrow.{narrow-search}
 use Rattle.triangular.proofs.Verdicts.{found-basis, no-basis, verdict-own}
 use Rattle.memory.specs.Entries.{memoryWords, roomIn}
-use Rattle.memory.specs.inner.Kept.{Kept}
 use Rattle.memory.proofs.Kept.{kept-none, kept-over}
-use Rattle.search.specs.inner.Levels.{foundIn, gramOf}
+use Rattle.spaces.specs.Levels.{gramOf}
+use Rattle.search.specs.inner.Levels.{foundIn}
 use Rattle.search.specs.inner.Reports.{Space, Grew, Reports}
-use Rattle.search.proofs.Levels.{found-none}
+use Rattle.search.proofs.LentLevels.{found-none}
 use Rattle.search.proofs.Reported.{grew-none, empty-reports}
 use borrow.Author.Needs.{needs}
 use Rattle.search.proofs.searched.Statement.{statement}

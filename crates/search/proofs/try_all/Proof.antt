@@ -9,9 +9,11 @@ use Rattle.blocks.specs.Words.{rowsIn}
 use Rattle.residue.specs.Residue.{form}
 use Rattle.memory.specs.Entries.{entrySize, roomIn}
 use Rattle.memory.proofs.Kept.{kept-none, kept-no-room-enter}
+use Rattle.spaces.proofs.Grams.{tested-form}
 use Rattle.search.specs.inner.Levels.{foundIn}
-use Rattle.search.proofs.Levels.{levels-least}
-use Rattle.search.proofs.Reported.{grew-none, plain-alternating, plain-reports, alternates}
+use Rattle.search.proofs.LentLevels.{levels-least}
+use Rattle.search.proofs.Reported.{grew-none, plain-alternating, plain-reports}
+use borrow.Author.Needs.{needs}
 use Rattle.search.proofs.try_all.Statement.{statement}
 use Rattle.search.proofs.try_all.Tie as tie
 
@@ -33,7 +35,7 @@ returns c =
     (a .ensures .1, λ E sp. a .ensures .2 E [] sp (kept-none (c .before .before .before .before .before .before .before .before .before .before .before .before .before .before .args .memory .now), tt))
 
 is-alternating-requires : tie.Need-is-alternating-requires
-is-alternating-requires c κs = let s = c .before .before .before .before .before in (s .pre .1, omega (arith, levels-least (s .args .k), s .pre .3))
+is-alternating-requires c κs = search needs
 
 same-length-4 : tie.Need-same-length-4
 same-length-4 c = refl
@@ -48,7 +50,7 @@ returns-2 c =
       grew-none ws 0 zero-le,
       λ E sp.
           plain-alternating (form E) (roomIn ws) (s .args .budget) 0 B [] tt zero-le (s .args .k) (s .pre .0) refl (kept-no-room-enter ws short)
-          (alternates (o .result) _ (s .args .k) (s .pre .0) (o .ensures E B (sp .0)) ∙ c .if2 .taken) (foundIn (s .args .k) (rowsIn (s .args .basis .now))) ws 0 (kept-none ws),
+          (tested-form (s .args .k) (rowsIn (s .args .gram .now)) (omega (arith, levels-least (s .args .k), s .pre .3)) E B (sp .0) (s .pre .0) (o .result) (o .ensures) ∙ c .if2 .taken) (foundIn (s .args .k) (rowsIn (s .args .basis .now))) ws 0 (kept-none ws),
     )
 
 try-draws-requires : tie.Need-try-draws-requires
@@ -74,7 +76,7 @@ returns-3 c =
       a .ensures .1,
       λ E sp.
           plain-reports (form E) (roomIn ws) (s .args .budget) 0 B [] tt zero-le (s .args .k) (s .pre .0) refl (kept-no-room-enter ws short)
-          (alternates (o .result) _ (s .args .k) (s .pre .0) (o .ensures E B (sp .0)) ∙ c .before .before .before .before .before .before .before .before .before .before .if2 .left)
+          (tested-form (s .args .k) (rowsIn (s .args .gram .now)) (omega (arith, levels-least (s .args .k), s .pre .3)) E B (sp .0) (s .pre .0) (o .result) (o .ensures) ∙ c .before .before .before .before .before .before .before .before .before .before .if2 .left)
           (a .result .ending) (a .result .looks) (foundIn (s .args .k) (rowsIn (a .last .0))) (a .last .1 .1 .0) (a .result .used) (a .ensures .3 E [] sp (kept-none ws, tt)),
     )
 

@@ -11,7 +11,7 @@ use Rattle.triangular.specs.Search.{budgeted}
 use Rattle.triangular.specs.Memory.{Entry, Remembered, knownWithin}
 use Rattle.triangular.specs.Readings.{verdictOf}
 use Rattle.memory.specs.inner.Kept.{Kept}
-use Rattle.search.specs.inner.Levels.{gramOf}
+use Rattle.spaces.specs.Levels.{gramOf}
 
 -- the first d rows are members of a space and their Gram matrix by the core E
 abbrev pub Space : List ℕ → ℕ → List ℕ → List ℕ → Type 0

@@ -33,11 +33,11 @@ use Rattle.blocks.proofs.put.Reads as put-reads
 use Rattle.blocks.proofs.row.Reads as row-reads
 use Rattle.blocks.proofs.start.Reads as start-reads
 use Rattle.search.proofs.ask.Reads as ask-reads
-use Rattle.search.proofs.spaces.is_alternating.Reads as is-alternating-reads
+use Rattle.spaces.proofs.is_alternating.Reads as is-alternating-reads
 use Rattle.search.proofs.note.Reads as note-reads
-use Rattle.search.proofs.spaces.pass_gram.Reads as pass-gram-reads
-use Rattle.search.proofs.spaces.pass_members.Reads as pass-members-reads
-use Rattle.search.proofs.spaces.sums.Reads as sums-reads
+use Rattle.spaces.proofs.pass_gram.Reads as pass-gram-reads
+use Rattle.spaces.proofs.pass_members.Reads as pass-members-reads
+use Rattle.spaces.proofs.sums.Reads as sums-reads
 
 -- the dimension falls; a space is above its draws, and these above each of them
 abbrev pub μ-try-draw : Measures 3 try-draw-kinds.ps ℕ

@@ -5,7 +5,7 @@ use mathlib.Core.Bool.{true}
 use mathlib.Core.List.{List, _++_}
 use Prim.Native.Nat.{ℕ, _+_, _-_, _^_, _≤_, _<_, min}
 use native.Mathlib.Omega.{arith}
-use lib.ListN.{length, getD, take, drop}
+use lib.ListN.{length, take, drop}
 use Rattle.binar.specs.Bits.{dot}
 use Rattle.binar.specs.Rows.{val, width}
 use Rattle.blocks.specs.Matrices.{times, All}
@@ -16,12 +16,15 @@ use Rattle.triangular.specs.Spaces.{complement, isAlternating}
 use Rattle.triangular.specs.Memory.{Remembered, searchWith}
 use Rattle.memory.specs.Entries.{entrySize, roomIn}
 use Rattle.memory.proofs.Kept.{kept-no-room, kept-no-room-enter}
-use Rattle.search.specs.inner.Levels.{levels, foundIn, gramOf, passedAt}
+use Rattle.spaces.specs.Levels.{counted, gramOf, membersPassed}
+use Rattle.spaces.proofs.Grams.{tested-form}
+use Rattle.search.specs.inner.Levels.{levels, foundIn}
 use Rattle.search.specs.inner.Reports.{Space, Reports}
 use Rattle.triangular.specs.declared.Ending.{Ending}
-use Rattle.search.proofs.Levels.{levels-least, levels-behind, found-none, back-rest}
-use Rattle.search.proofs.Draws.{Drawn, Moved, room-g, gram-kept, rest, rest-gram, rest-small, room-b, basis-kept, within-b, child}
-use Rattle.search.proofs.Reported.{grew-none, empty-reports, plain-alternating, plain-reports, alternates}
+use Rattle.search.proofs.LentLevels.{levels-least, found-none, back-rest}
+use Rattle.search.proofs.Draws.{Drawn, Moved, room-g, gram-front-kept, gram-kept, rest, rest-gram, rest-small, room-b, basis-kept, within-b, child}
+use Rattle.search.proofs.Reported.{grew-none, empty-reports, plain-alternating, plain-reports}
+use borrow.Author.Needs.{needs}
 use Rattle.search.proofs.try_draw.Reads as try-draw
 use Rattle.search.proofs.+try_draw+try_draws+try_space.Lts-try_draw as try-draw-lts
 use Rattle.search.proofs.+try_draw+try_draws+try_space.Proof.Claims.{try-draw-at, draw-claims}
@@ -48,8 +51,7 @@ module _ (t : ℕ) (c : try-draw-lts.After-start2 (draw-claims t) (try-draw-at t
     g-room = from .pre .1 .3;
     column = c .before .before .before .before .before .before .before .before .lowest .ensures;
     g₂-long = lent-same gram (from .args .gram .now) (c .before .before .before .before .before .before .pass-gram .kept .0);
-    g₂-front = c .before .before .before .before .before .before .pass-gram .ensures .0;
-    g₂-rows = c .before .before .before .before .before .before .pass-gram .ensures .1;
+    g₂-is = c .before .before .before .before .before .before .pass-gram .ensures;
   }
 
   -- the Gram rows behind, and once they have come back
@@ -69,10 +71,10 @@ module _ (t : ℕ) (c : try-draw-lts.After-start2 (draw-claims t) (try-draw-at t
   more = omega (arith, from .pre .1 .0, c .before .before .before .before .before .before .before .before .before .if1 .left)
 
   -- where the members are passed on too
-  module _ (words : List ℕ) (long : length words ≡ length (from .args .basis .now)) (front : take (d + d) (rowsIn words) ≡ take (d + d) (rowsIn (from .args .basis .now)))
-      (rows : j < d → (i : ℕ) → i < d - 1 → getD (rowsIn words) (d + d + i) 0 ≡ passedAt (val (from .args .g)) j (take d (rowsIn (from .args .basis .now))) i) where
+  module _ (words : List ℕ) (long : length words ≡ length (from .args .basis .now))
+      (is : rowsIn words ≡ membersPassed (val (from .args .g)) j (counted d) (rowsIn (from .args .basis .now))) where
     pub moved : Moved d (rowsIn (from .args .basis .now)) (val (from .args .g)) j (rowsIn words)
-    moved = record { b₁-long = lent-same words (from .args .basis .now) long; b₁-front = front; b₁-rows = rows }
+    moved = record { b₁-long = lent-same words (from .args .basis .now) long; b₁-is = is }
 
     at-b : c .start2 .result ≡ min (wordsFor (d + d)) (length words)
     at-b = c .start2 .ensures ∙ ap (min (wordsFor (d + d))) (sym long)
@@ -146,24 +148,18 @@ try-draw-returns t c =
     )
 
 pub try-draw-pass-gram-requires : (t : ℕ) → try-draw-lts.Need-pass-gram-requires (draw-claims t) (try-draw-at t) try-draw.Post
-try-draw-pass-gram-requires t c κs =
-    let s = c .before .before .before .before .before .before in
-    (s .pre .1 .0, s .pre .1 .1, omega (arith, levels-behind (s .args .d) (s .pre .1 .0), s .pre .1 .3))
+try-draw-pass-gram-requires t c κs = search needs
 
 pub try-draw-pass-members-requires : (t : ℕ) → try-draw-lts.Need-pass-members-requires (draw-claims t) (try-draw-at t) try-draw.Post
-try-draw-pass-members-requires t c κs =
-    let s = c .before .before .before .before .before .before .before .before .before .before .before .before .before .before .before in
-    (s .pre .1 .0, s .pre .1 .1, omega (arith, levels-behind (s .args .d) (s .pre .1 .0), s .pre .1 .2))
+try-draw-pass-members-requires t c κs = search needs
 
 pub try-draw-pass-members-requires-2 : (t : ℕ) → try-draw-lts.Need-pass-members-requires-2 (draw-claims t) (try-draw-at t) try-draw.Post
-try-draw-pass-members-requires-2 t c κs =
-    let s = c .before .before .before .before .before .before .before .before .before .before .before .before .before .before .before .before .before .before .before in
-    (s .pre .1 .0, s .pre .1 .1, omega (arith, levels-behind (s .args .d) (s .pre .1 .0), s .pre .1 .2))
+try-draw-pass-members-requires-2 t c κs = search needs
 
 -- ---- a memory is lent
 
 pub try-draw-try-space-requires : (t : ℕ) → try-draw-lts.Need-try-space-requires (draw-claims t) (try-draw-at t) try-draw.Post
-try-draw-try-space-requires t c κs = let s = c .before .before .before .before .before .before .before .before .before .before .before .before .before .before .before .before .before .before .before .before .before in (omega (arith, s .pre .0, s .pre .1 .0), rooms t (c .before .before .before .before .before .before .before .before) (c .before .before .before .before .before .pass-members .last .0) (c .before .before .before .before .before .pass-members .kept .0) (c .before .before .before .before .before .pass-members .ensures .0) (c .before .before .before .before .before .pass-members .ensures .1))
+try-draw-try-space-requires t c κs = let s = c .before .before .before .before .before .before .before .before .before .before .before .before .before .before .before .before .before .before .before .before .before in (omega (arith, s .pre .0, s .pre .1 .0), rooms t (c .before .before .before .before .before .before .before .before) (c .before .before .before .before .before .pass-members .last .0) (c .before .before .before .before .before .pass-members .kept .0) (c .before .before .before .before .before .pass-members .ensures))
 
 pub try-draw-returns-2 : (t : ℕ) → try-draw-lts.Need-returns-2 (draw-claims t) (try-draw-at t) try-draw.Post
 try-draw-returns-2 t c =
@@ -172,20 +168,17 @@ try-draw-returns-2 t c =
     let a = c .before .before .before .before .before .before .try-space in (
       a .ensures .0,
       a .ensures .1,
-      back-b t at (c .before .before .before .before .before .before .before .before .before .before .before .before .pass-members .last .0) (c .before .before .before .before .before .before .before .before .before .before .before .before .pass-members .kept .0) (c .before .before .before .before .before .before .before .before .before .before .before .before .pass-members .ensures .0) (c .before .before .before .before .before .before .before .before .before .before .before .before .pass-members .ensures .1) (a .last .0),
+      back-b t at (c .before .before .before .before .before .before .before .before .before .before .before .before .pass-members .last .0) (c .before .before .before .before .before .before .before .before .before .before .before .before .pass-members .kept .0) (c .before .before .before .before .before .before .before .before .before .before .before .before .pass-members .ensures) (a .last .0),
       back-g t at (a .last .1 .0),
       λ E M x sp ca sum on.
-          told t at (c .before .before .before .before .before .before .before .before .before .before .before .before .pass-members .last .0) (c .before .before .before .before .before .before .before .before .before .before .before .before .pass-members .kept .0) (c .before .before .before .before .before .before .before .before .before .before .before .before .pass-members .ensures .0) (c .before .before .before .before .before .before .before .before .before .before .before .before .pass-members .ensures .1) E x sp sum on (λ l. searchWith (form E) width (roomIn (s .memory .now)) (s .d - 1) l (s .looks) M) (a .result .ending) (a .result .looks) (a .last .0) (a .last .1 .1 .0) (a .result .used)
-          (a .ensures .2 E M (stands t at (c .before .before .before .before .before .before .before .before .before .before .before .before .pass-members .last .0) (c .before .before .before .before .before .before .before .before .before .before .before .before .pass-members .kept .0) (c .before .before .before .before .before .before .before .before .before .before .before .before .pass-members .ensures .0) (c .before .before .before .before .before .before .before .before .before .before .before .before .pass-members .ensures .1) E x sp sum on) ca),
+          told t at (c .before .before .before .before .before .before .before .before .before .before .before .before .pass-members .last .0) (c .before .before .before .before .before .before .before .before .before .before .before .before .pass-members .kept .0) (c .before .before .before .before .before .before .before .before .before .before .before .before .pass-members .ensures) E x sp sum on (λ l. searchWith (form E) width (roomIn (s .memory .now)) (s .d - 1) l (s .looks) M) (a .result .ending) (a .result .looks) (a .last .0) (a .last .1 .1 .0) (a .result .used)
+          (a .ensures .2 E M (stands t at (c .before .before .before .before .before .before .before .before .before .before .before .before .pass-members .last .0) (c .before .before .before .before .before .before .before .before .before .before .before .before .pass-members .kept .0) (c .before .before .before .before .before .before .before .before .before .before .before .before .pass-members .ensures) E x sp sum on) ca),
     )
 
 -- ---- none is lent
 
 pub try-draw-is-alternating-requires : (t : ℕ) → try-draw-lts.Need-is-alternating-requires (draw-claims t) (try-draw-at t) try-draw.Post
-try-draw-is-alternating-requires t c κs =
-    let at = c .before .before .before in
-    let s = c .before .before .before .before .before .before .before .before .before .before .before .before .before .before .before .before in
-    (omega (arith, s .pre .1 .1), subst (λ l. s .args .d - 1 ≤ length l) (sym (rest-g t at)) (omega (arith, levels-least (s .args .d - 1), room-g _ _ _ _ _ _ (drawn t at))))
+try-draw-is-alternating-requires t c κs = search needs
 
 -- the test of the Gram rows, which tells of every space that has them
 module _ (t : ℕ) (c : try-draw-lts.After-is-alternating (draw-claims t) (try-draw-at t) try-draw.Post) where
@@ -196,7 +189,10 @@ module _ (t : ℕ) (c : try-draw-lts.After-is-alternating (draw-claims t) (try-d
   short = omega (arith, c .before .before .before .if2 .left)
 
   pub tests : (E X : List ℕ) → gramOf E X ≡ take (d t begun - 1) (rowsIn (tail-g t begun)) → isAlternating (form E) X ≡ c .is-alternating .result
-  tests E X e = alternates (c .is-alternating .result) (isAlternating (form E) X) (d t begun - 1) (more t begun) (c .is-alternating .ensures E X e)
+  tests E X e = tested-form (d t begun - 1) (rowsIn (tail-g t begun)) behind E X e (more t begun) (c .is-alternating .result) (c .is-alternating .ensures)
+    where
+      behind : d t begun - 1 ≤ length (rowsIn (tail-g t begun))
+      behind = subst (λ l. d t begun - 1 ≤ length l) (sym (rest-g t begun)) (omega (arith, levels-least (d t begun - 1), room-g _ _ _ _ _ _ (drawn t begun)))
 
 -- it fails by its Gram rows alone
 pub try-draw-returns-3 : (t : ℕ) → try-draw-lts.Need-returns-3 (draw-claims t) (try-draw-at t) try-draw.Post
@@ -209,7 +205,7 @@ try-draw-returns-3 t c =
       s .pre .1 .4,
       grew-none ws (s .args .used) (s .pre .1 .5),
       refl,
-      p .g₂-front,
+      gram-front-kept _ _ _ _ _ _ p,
       λ E M x sp ca sum on.
           let X = rest _ _ _ _ _ _ p E x (sp .0) sum on in
           plain-alternating (form E) (roomIn ws) (s .args .budget) (s .args .looks) X M (ca .1) (s .pre .1 .4) (s .args .d - 1) (more t at)
@@ -219,7 +215,7 @@ try-draw-returns-3 t c =
     )
 
 pub try-draw-try-draws-requires : (t : ℕ) → try-draw-lts.Need-try-draws-requires (draw-claims t) (try-draw-at t) try-draw.Post
-try-draw-try-draws-requires t c κs = let s = c .before .before .before .before .before .before .before .before .before .before .before .before .before .before .before .before .before .before .before .before .before .before .before .before .before in (omega (arith, s .pre .0, s .pre .1 .0), rooms t (c .before .before .before .before .before .before .before .before .before .before .before .before) (c .before .before .before .before .before .pass-members2 .last .0) (c .before .before .before .before .before .pass-members2 .kept .0) (c .before .before .before .before .before .pass-members2 .ensures .0) (c .before .before .before .before .before .pass-members2 .ensures .1))
+try-draw-try-draws-requires t c κs = let s = c .before .before .before .before .before .before .before .before .before .before .before .before .before .before .before .before .before .before .before .before .before .before .before .before .before in (omega (arith, s .pre .0, s .pre .1 .0), rooms t (c .before .before .before .before .before .before .before .before .before .before .before .before) (c .before .before .before .before .before .pass-members2 .last .0) (c .before .before .before .before .before .pass-members2 .kept .0) (c .before .before .before .before .before .pass-members2 .ensures))
 
 -- its draws are all that there is to tell
 pub try-draw-returns-4 : (t : ℕ) → try-draw-lts.Need-returns-4 (draw-claims t) (try-draw-at t) try-draw.Post
@@ -232,12 +228,12 @@ try-draw-returns-4 t c =
     let a = c .before .before .before .before .before .before .try-draws in (
       a .ensures .0,
       a .ensures .1,
-      back-b t at (c .before .before .before .before .before .before .before .before .before .before .before .before .pass-members2 .last .0) (c .before .before .before .before .before .before .before .before .before .before .before .before .pass-members2 .kept .0) (c .before .before .before .before .before .before .before .before .before .before .before .before .pass-members2 .ensures .0) (c .before .before .before .before .before .before .before .before .before .before .before .before .pass-members2 .ensures .1) (a .last .0),
+      back-b t at (c .before .before .before .before .before .before .before .before .before .before .before .before .pass-members2 .last .0) (c .before .before .before .before .before .before .before .before .before .before .before .before .pass-members2 .kept .0) (c .before .before .before .before .before .before .before .before .before .before .before .before .pass-members2 .ensures) (a .last .0),
       back-g t at (a .last .1 .0),
       λ E M x sp ca sum on.
-          let sp' = stands t at (c .before .before .before .before .before .before .before .before .before .before .before .before .pass-members2 .last .0) (c .before .before .before .before .before .before .before .before .before .before .before .before .pass-members2 .kept .0) (c .before .before .before .before .before .before .before .before .before .before .before .before .pass-members2 .ensures .0) (c .before .before .before .before .before .before .before .before .before .before .before .before .pass-members2 .ensures .1) E x sp sum on in
-          told t at (c .before .before .before .before .before .before .before .before .before .before .before .before .pass-members2 .last .0) (c .before .before .before .before .before .before .before .before .before .before .before .before .pass-members2 .kept .0) (c .before .before .before .before .before .before .before .before .before .before .before .before .pass-members2 .ensures .0) (c .before .before .before .before .before .before .before .before .before .before .before .before .pass-members2 .ensures .1) E x sp sum on (λ l. searchWith (form E) width (roomIn ws) (s .d - 1) l (s .looks) M) (a .result .ending) (a .result .looks) (a .last .0) (a .last .1 .1 .0) (a .result .used)
-          (plain-reports (form E) (roomIn ws) (s .budget) (s .looks) (take (s .d - 1) (rowsIn (tail-b t at (c .before .before .before .before .before .before .before .before .before .before .before .before .pass-members2 .last .0) (c .before .before .before .before .before .before .before .before .before .before .before .before .pass-members2 .kept .0) (c .before .before .before .before .before .before .before .before .before .before .before .before .pass-members2 .ensures .0) (c .before .before .before .before .before .before .before .before .before .before .before .before .pass-members2 .ensures .1)))) M (ca .1) (start .pre .1 .4) (s .d - 1) (more t at)
-          (kept-no-room ws (s .used) M (ca .0) (short t to) .0) (kept-no-room-enter ws (short t to)) (tests t to E (take (s .d - 1) (rowsIn (tail-b t at (c .before .before .before .before .before .before .before .before .before .before .before .before .pass-members2 .last .0) (c .before .before .before .before .before .before .before .before .before .before .before .before .pass-members2 .kept .0) (c .before .before .before .before .before .before .before .before .before .before .before .before .pass-members2 .ensures .0) (c .before .before .before .before .before .before .before .before .before .before .before .before .pass-members2 .ensures .1)))) (sp' .0) ∙ c .before .before .before .before .before .before .before .before .before .before .before .before .before .before .if3 .left)
+          let sp' = stands t at (c .before .before .before .before .before .before .before .before .before .before .before .before .pass-members2 .last .0) (c .before .before .before .before .before .before .before .before .before .before .before .before .pass-members2 .kept .0) (c .before .before .before .before .before .before .before .before .before .before .before .before .pass-members2 .ensures) E x sp sum on in
+          told t at (c .before .before .before .before .before .before .before .before .before .before .before .before .pass-members2 .last .0) (c .before .before .before .before .before .before .before .before .before .before .before .before .pass-members2 .kept .0) (c .before .before .before .before .before .before .before .before .before .before .before .before .pass-members2 .ensures) E x sp sum on (λ l. searchWith (form E) width (roomIn ws) (s .d - 1) l (s .looks) M) (a .result .ending) (a .result .looks) (a .last .0) (a .last .1 .1 .0) (a .result .used)
+          (plain-reports (form E) (roomIn ws) (s .budget) (s .looks) (take (s .d - 1) (rowsIn (tail-b t at (c .before .before .before .before .before .before .before .before .before .before .before .before .pass-members2 .last .0) (c .before .before .before .before .before .before .before .before .before .before .before .before .pass-members2 .kept .0) (c .before .before .before .before .before .before .before .before .before .before .before .before .pass-members2 .ensures)))) M (ca .1) (start .pre .1 .4) (s .d - 1) (more t at)
+          (kept-no-room ws (s .used) M (ca .0) (short t to) .0) (kept-no-room-enter ws (short t to)) (tests t to E (take (s .d - 1) (rowsIn (tail-b t at (c .before .before .before .before .before .before .before .before .before .before .before .before .pass-members2 .last .0) (c .before .before .before .before .before .before .before .before .before .before .before .before .pass-members2 .kept .0) (c .before .before .before .before .before .before .before .before .before .before .before .before .pass-members2 .ensures)))) (sp' .0) ∙ c .before .before .before .before .before .before .before .before .before .before .before .before .before .before .if3 .left)
           (a .result .ending) (a .result .looks) (foundIn (s .d - 1) (rowsIn (a .last .0))) (a .last .1 .1 .0) (a .result .used) (a .ensures .3 E M sp' ca)),
     )

@@ -13,14 +13,16 @@ use Rattle.blocks.specs.Words.{rowsIn}
 use Rattle.blocks.proofs.Products.{times-zero}
 use Rattle.residue.specs.Residue.{form}
 use Rattle.memory.specs.Entries.{roomIn}
-use Rattle.search.specs.inner.Levels.{gramOf}
+use Rattle.spaces.specs.Levels.{gramOf}
 use Rattle.search.specs.inner.Reports.{Space}
+use Rattle.spaces.proofs.Levels.{sums-front, sums-at}
 use Rattle.search.proofs.Drawing.{ones-last, next-is, next-column, next-drawn}
-use Rattle.search.proofs.Grams.{gram-self}
-use Rattle.search.proofs.Levels.{levels-least, front-get}
+use Rattle.spaces.proofs.Grams.{gram-self}
+use Rattle.search.proofs.LentLevels.{levels-least, front-get}
 use Rattle.search.proofs.Going.{going-begun, going-end, going-stop}
 use Rattle.search.proofs.Reported.{grew-none}
 use Rattle.search.proofs.try_draws.Reads as try-draws
+use borrow.Author.Needs.{needs}
 use Rattle.search.proofs.+try_draw+try_draws+try_space.Lts-try_draws as try-draws-lts
 use Rattle.search.proofs.+try_draw+try_draws+try_space.Proof.Claims.{try-draws-at, draws-claims, try-draws-Inv-loop, try-draws-μ-loop}
 
@@ -57,7 +59,7 @@ module _ (t : ℕ) (c : try-draws-lts.After-low-ones (draws-claims t) (try-draws
 
   pub space-in : (E : List ℕ) → Space E (c .before .before .before .before .before .before .before .before .args .d) (rowsIn (c .before .before .before .before .before .before .before .before .args .basis .now)) (rowsIn (c .before .before .before .before .before .before .before .before .args .gram .now))
       → Space E (c .before .before .before .before .before .before .before .before .args .d) (rowsIn (c .before .before .before .before .before .before .before .before .args .basis .now)) summed
-  space-in E sp = (sp .0 ∙ sym (c .before .before .before .sums .ensures .0), sp .1)
+  space-in E sp = (sp .0 ∙ sym (sums-front (c .before .before .before .before .before .before .before .before .args .d) (rowsIn (c .before .before .before .before .before .before .before .before .args .gram .now)) summed (c .before .before .before .before .before .before .before .before .pre .1 .1) (c .before .before .before .sums .ensures)), sp .1)
 
   pub summed-long : length (c .before .before .before .sums .last .0) ≡ length (c .before .before .before .before .before .before .before .before .args .gram .now)
   summed-long = c .before .before .before .sums .kept .0
@@ -73,11 +75,13 @@ module _ (t : ℕ) (c : try-draws-lts.After-sum (draws-claims t) (try-draws-at t
       let low = c .before .before .lowest in
       let at = c .before .before .before .before .before .before .before .before .loop in
       let G = summed t (c .before .before .before .before .before .before .before .before .before .before) in
+      let s = c .before .before .before .before .before .before .before .before .before .before .before .before .before .before .before .before .before .before in
+      let G₀ = rowsIn (s .args .gram .now) in
       let o = c .before .before .before .before .before .before .before .before .before .before .before .before .before .sums .ensures in
       c .sum .ensures
       ∙ drawn t (c .before .before .before .before .before) (take d G) (val (at .g)) (val (c .before .row .result)) (low .result) (low .ensures) (at .inv .7)
-      (c .before .row .ensures ∙ front-get (d + d) (rowsIn (at .gram)) G (at .inv .6) (d + low .result) (omega (arith, at-column)) ∙ o .1 (low .result) at-column
-      ∙ ap (times (2 ^ suc (low .result) - 1)) (sym (o .0)))
+      (c .before .row .ensures ∙ front-get (d + d) (rowsIn (at .gram)) G (at .inv .6) (d + low .result) (omega (arith, at-column)) ∙ sums-at d G₀ G (s .pre .1 .1) o (omega (arith, levels-least d, s .pre .1 .3)) (low .result) at-column
+      ∙ ap (times (2 ^ suc (low .result) - 1)) (sym (sums-front d G₀ G (s .pre .1 .1) o)))
 
 -- the draw tested
 module _ (t : ℕ) (c : try-draws-lts.After-dot (draws-claims t) (try-draws-at t) try-draws.Post try-draws-Inv-loop try-draws-μ-loop) (E : List ℕ)
@@ -91,9 +95,7 @@ module _ (t : ℕ) (c : try-draws-lts.After-dot (draws-claims t) (try-draws-at t
 -- ---- before the draws, and behind them
 
 pub try-draws-sums-requires : (t : ℕ) → try-draws-lts.Need-sums-requires (draws-claims t) (try-draws-at t) try-draws.Post try-draws-Inv-loop try-draws-μ-loop
-try-draws-sums-requires t c κs =
-    let s = c .before .before .before .before in
-    (s .pre .1 .1, omega (arith, levels-least (s .args .d), s .pre .1 .3))
+try-draws-sums-requires t c κs = search needs
 
 pub try-draws-loop-holds : (t : ℕ) → try-draws-lts.Need-loop-holds (draws-claims t) (try-draws-at t) try-draws.Post try-draws-Inv-loop try-draws-μ-loop
 try-draws-loop-holds t c =

@@ -1,7 +1,6 @@
 -- What `try_space` asks and answers: a space that is held or alternating, and one whose draws are taken.
 -- Assumes nothing.
 use mathlib.Core.Path.{_≡_, refl, sym, ap, _∙_, subst}
-use mathlib.Core.Bool.{true, false}
 use mathlib.Core.Logic.{_⊎_, inl, inr, ⊎-elim}
 use mathlib.Core.List.{List, _++_}
 use Prim.Native.Nat.{ℕ, _+_, _-_, _^_, _≤_, _<_}
@@ -26,10 +25,11 @@ use Rattle.memory.specs.inner.Kept.{Fits, Kept}
 use Rattle.memory.proofs.Kept.{room-same}
 use Rattle.search.specs.declared.Asked.{Asked}
 use Rattle.search.specs.declared.Asked.the-variants.{Held, Alternating, Open}
-use Rattle.search.specs.inner.Levels.{foundIn, gramOf}
+use Rattle.spaces.specs.Levels.{gramOf}
+use Rattle.search.specs.inner.Levels.{foundIn}
 use Rattle.search.specs.inner.Reports.{Space, Carries, Reports}
 use Rattle.search.specs.inner.Asked.{Known}
-use Rattle.search.proofs.Levels.{levels-least, behind-front}
+use Rattle.search.proofs.LentLevels.{levels-least, behind-front}
 use Rattle.search.proofs.Reported.{grew-none, grew-on, noted-grew, noted-kept, held-reports, alternating-reports, kept-reports, failed-reports}
 use Rattle.search.proofs.try_space.Reads as try-space
 use Rattle.search.proofs.+try_draw+try_draws+try_space.Lts-try_space as try-space-lts

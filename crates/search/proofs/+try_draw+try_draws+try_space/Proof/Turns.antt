@@ -1,10 +1,9 @@
 -- The turns of the draws of `try_draws`: a draw that is left, one that failed, and one that ends the search.
 -- Assumes nothing.
-use mathlib.Core.Path.{_≡_, refl, sym, ap, ap₂, _∙_, subst}
+use mathlib.Core.Path.{_≡_, sym, ap, _∙_, subst}
 use mathlib.Core.Bool.{true}
 use mathlib.Core.List.{List, _∷_}
 use Prim.Native.Nat.{ℕ, _+_, _-_, _^_, _≤_, _<_}
-use native.Mathlib.Nat.{le-refl}
 use native.Mathlib.Omega.{arith}
 use borrow.Author.Needs.{needs}
 use lib.ListN.{length, take, drop}
@@ -13,14 +12,15 @@ use Rattle.blocks.specs.Matrices.{times, All}
 use Rattle.blocks.specs.Words.{rowsIn}
 use Rattle.blocks.proofs.Lent.{lent-same}
 use Rattle.residue.specs.Residue.{form}
-use Rattle.triangular.specs.declared.Ending.the-variants.{Found, Failed, Spent}
+use Rattle.triangular.specs.declared.Ending.the-variants.{Found, Spent}
 use Rattle.triangular.specs.Spaces.{complement}
 use Rattle.triangular.specs.Memory.{Entry, searchWith}
 use Rattle.memory.specs.Entries.{roomIn}
 use Rattle.memory.proofs.Kept.{room-same}
-use Rattle.search.specs.inner.Levels.{foundIn, gramOf}
+use Rattle.spaces.specs.Levels.{gramOf}
+use Rattle.search.specs.inner.Levels.{foundIn}
 use Rattle.search.specs.inner.Reports.{Space, Carries, Grew, Reports}
-use Rattle.search.proofs.Levels.{levels-least, front-less, found-kept}
+use Rattle.search.proofs.LentLevels.{levels-least, front-less, found-kept}
 use Rattle.search.proofs.Going.{all, going-left, going-found, going-spent, going-failed}
 use Rattle.search.proofs.Reported.{grew-on, found-not-failed}
 use Rattle.search.proofs.try_draws.Reads as try-draws
