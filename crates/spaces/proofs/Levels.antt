@@ -1,27 +1,52 @@
 -- What stands in lent rows once sums are put behind a level, or what a draw passes on, as far as there is room.
 -- Assumes nothing.
-use mathlib.Core.Path.{_≡_, ap, _∙_}
+use mathlib.Core.Path.{_≡_, sym, ap, _∙_}
 use mathlib.Core.List.{List, map}
 use Prim.Native.Nat.{ℕ, suc, _+_, _-_, _^_, _≤_, _<_}
-use native.Mathlib.Nat.{le-refl, min-eq-left}
+use native.Mathlib.Nat.{le-refl}
+use borrow.Author.Tests.{le-leb, lt-leb}
 use lib.ListN.{length, getD, take}
+use Rattle.binar.specs.Bits.{select}
 use Rattle.binar.specs.Rows.{width}
 use Rattle.blocks.specs.Matrices.{times}
 use Rattle.spaces.specs.Levels.{below, overFrom, counted, sumTo, summed, shrunk, passedAt, gramAt, membersPassed, gramPassed}
-use Rattle.spaces.proofs.Behind.{from-front, from-at}
+use Rattle.spaces.proofs.Behind.{from-start, from-end, from-front, from-at}
 use Rattle.spaces.proofs.Rows.{sum-is, gram-is}
 
-module _ (d : ℕ) (w w' : List ℕ) (fits : d ≤ width) where
-  counted-is : counted d ≡ d
-  unfolding counted
-  counted-is = min-eq-left fits
+-- ---- as many members as count
 
+pub counted-is : (d : ℕ) → d ≤ width → counted d ≡ d
+unfolding counted
+counted-is d fits = ap (λ b. select 0 b d) (le-leb d width fits)
+
+counted-none : (d : ℕ) → width < d → counted d ≡ 0
+unfolding counted
+counted-none d over = ap (λ b. select 0 b d) (lt-leb d width over)
+
+-- where none count, nothing is put
+none-put : (f : ℕ → ℕ) (w : List ℕ) → overFrom 0 (map f (below 0)) w ≡ w
+none-put f w = sym (from-end 0 f 0 w 0 (le-refl 0)) ∙ sym (from-start 0 f 0 w)
+
+module _ (d : ℕ) (w : List ℕ) (over : width < d) where
+  pub sums-none : w ≡ summed (counted d) w
+  unfolding summed
+  sums-none = sym (ap (λ n. summed n w) (counted-none d over) ∙ none-put (sumTo (take 0 w)) w)
+
+  pub members-none : (h j : ℕ) → w ≡ membersPassed h j (counted d) w
+  unfolding membersPassed
+  members-none h j = sym (ap (λ n. membersPassed h j n w) (counted-none d over) ∙ none-put (passedAt h j (take 0 w)) w)
+
+  pub gram-none : (h j : ℕ) → w ≡ gramPassed h j (counted d) w
+  unfolding gramPassed
+  gram-none h j = sym (ap (λ n. gramPassed h j n w) (counted-none d over) ∙ none-put (gramAt h j (take 0 w)) w)
+
+module _ (d : ℕ) (w w' : List ℕ) (fits : d ≤ width) where
   -- ---- sums
 
   module _ (is : w' ≡ summed (counted d) w) where
     put : w' ≡ overFrom d (map (sumTo (take d w)) (below d)) w
     unfolding summed
-    put = is ∙ ap (λ n. summed n w) counted-is
+    put = is ∙ ap (λ n. summed n w) (counted-is d fits)
 
     pub sums-front : take d w' ≡ take d w
     sums-front = ap (take d) put ∙ from-front d (map (sumTo (take d w)) (below d)) w d (le-refl d)
@@ -35,7 +60,7 @@ module _ (d : ℕ) (w w' : List ℕ) (fits : d ≤ width) where
     module _ (is : w' ≡ membersPassed h j (counted d) w) where
       members-put : w' ≡ overFrom (d + d) (map (passedAt h j (take d w)) (below (d - 1))) w
       unfolding membersPassed
-      members-put = is ∙ ap (λ n. membersPassed h j n w) counted-is
+      members-put = is ∙ ap (λ n. membersPassed h j n w) (counted-is d fits)
 
       pub members-front : take (d + d) w' ≡ take (d + d) w
       members-front = ap (take (d + d)) members-put ∙ from-front (d + d) (map (passedAt h j (take d w)) (below (d - 1))) w (d + d) (le-refl (d + d))
@@ -46,7 +71,7 @@ module _ (d : ℕ) (w w' : List ℕ) (fits : d ≤ width) where
     module _ (is : w' ≡ gramPassed h j (counted d) w) where
       gram-put : w' ≡ overFrom (d + d) (map (gramAt h j (take d w)) (below (d - 1))) w
       unfolding gramPassed
-      gram-put = is ∙ ap (λ n. gramPassed h j n w) counted-is
+      gram-put = is ∙ ap (λ n. gramPassed h j n w) (counted-is d fits)
 
       pub gram-front : take (d + d) w' ≡ take (d + d) w
       gram-front = ap (take (d + d)) gram-put ∙ from-front (d + d) (map (gramAt h j (take d w)) (below (d - 1))) w (d + d) (le-refl (d + d))

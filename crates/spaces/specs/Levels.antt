@@ -1,10 +1,10 @@
 -- A space in lent rows: its first rows are the members or the Gram matrix, d of them; d more are for sums, and behind these stands, in the same way, what a draw passes on.
--- No more members count than a row has columns.
+-- Members count only where a row has as many columns.
 -- Assumes nothing.
 use mathlib.Core.Bool.{Bool, true, false}
 use mathlib.Core.List.{List, [], _∷_, _++_, map}
-use Prim.Native.Nat.{ℕ, zero, suc, _+_, _-_, _/_, _%_, _^_, min}
-use lib.Dec.{ltb}
+use Prim.Native.Nat.{ℕ, zero, suc, _+_, _-_, _/_, _%_, _^_}
+use lib.Dec.{leb, ltb}
 use lib.ListN.{getD, take, drop}
 use Rattle.binar.specs.Bits.{select, _⊕_, bit}
 use Rattle.binar.specs.Rows.{width}
@@ -20,9 +20,9 @@ below (suc m) = below m ++ (m ∷ [])
 unfoldable pub overFrom : ℕ → List ℕ → List ℕ → List ℕ
 overFrom k rows out = take k out ++ over rows (drop k out)
 
--- how many of d members count
+-- how many of d members count: none, where they are more than a row has columns
 unfoldable pub counted : ℕ → ℕ
-counted d = min d width
+counted d = select 0 (leb d width) d
 
 -- the Gram matrix of members B by the core E: bit j of row i is the form of members i and j
 unfoldable pub gramOf : List ℕ → List ℕ → List ℕ

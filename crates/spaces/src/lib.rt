@@ -39,11 +39,13 @@ pub fn is_alternating(gram: &[u64], d: usize) -> bool
 pub fn sums(w: &mut [u64], d: usize)
     ensures { λ _. ⌜ rowsIn (now (w .exit)) ≡ summed (counted d) (rowsIn (now (w .entry))) ⌝ }
 {
-    let k = blocks::lesser(d, WIDTH);
+    if WIDTH < d {
+        return;
+    }
     let mut s = binar::zero();
-    for i in 0..k {
+    for i in 0..d {
         s = binar::sum(s, blocks::row(w, i));
-        blocks::put(w, k + i, s);
+        blocks::put(w, d + i, s);
     }
 }
 
@@ -70,16 +72,18 @@ fn shrunk(x: Row, h: Row, j: usize) -> Row
 pub fn pass_members(basis: &mut [u64], d: usize, h: Row, j: usize)
     ensures { λ _. ⌜ rowsIn (now (basis .exit)) ≡ membersPassed (val h) j (counted d) (rowsIn (now (basis .entry))) ⌝ }
 {
-    let k = blocks::lesser(d, WIDTH);
+    if WIDTH < d {
+        return;
+    }
     let m = blocks::row(basis, j);
     let mut x = blocks::row(basis, 0);
     let mut r = h;
-    for n in 1..k {
+    for n in 1..d {
         let i = n - 1;
         r = binar::shift_down(r, 1);
         let u = blocks::row(basis, n);
         let v = passed(x, u, m, i < j, binar::bit(r, 0));
-        blocks::put(basis, k + k + i, v);
+        blocks::put(basis, d + d + i, v);
         x = u;
     }
 }
@@ -88,16 +92,18 @@ pub fn pass_members(basis: &mut [u64], d: usize, h: Row, j: usize)
 pub fn pass_gram(gram: &mut [u64], d: usize, h: Row, j: usize)
     ensures { λ _. ⌜ rowsIn (now (gram .exit)) ≡ gramPassed (val h) j (counted d) (rowsIn (now (gram .entry))) ⌝ }
 {
-    let k = blocks::lesser(d, WIDTH);
+    if WIDTH < d {
+        return;
+    }
     let m = blocks::row(gram, j);
     let mut x = blocks::row(gram, 0);
     let mut r = h;
-    for n in 1..k {
+    for n in 1..d {
         let i = n - 1;
         r = binar::shift_down(r, 1);
         let u = blocks::row(gram, n);
         let y = passed(x, u, m, i < j, binar::bit(r, 0));
-        blocks::put(gram, k + k + i, shrunk(y, h, j));
+        blocks::put(gram, d + d + i, shrunk(y, h, j));
         x = u;
     }
 }
