@@ -1,40 +1,14 @@
-// The levels of a search in lent rows: the first space, the reduced basis of one, and the draws that are kept.
+// The levels of a search in lent rows: the first space, and the draws that are kept.
 use binar::Row;
-use binar::WIDTH;
 ghost use mathlib.Core.Path.{_≡_};
 ghost use Prim.Native.Nat.{_+_, _≤_};
 ghost use lib.ListN.{length, getD, take, drop};
 ghost use Rattle.binar.specs.Rows.{val, width};
 ghost use Rattle.blocks.specs.Matrices.{times, units};
 ghost use Rattle.blocks.specs.Words.{rowsIn, over};
-ghost use Rattle.triangular.specs.Memory.{reducedBasis};
 ghost use Rattle.triangular.specs.Readings.{coreIn};
 ghost use Rattle.spaces.specs.Levels.{gramOf};
 ghost use Rattle.search.specs.inner.Levels.{levels, foundIn};
-
-// Behind the members, the members once more.
-fn put_again(basis: &mut [u64], d: usize)
-    requires { ⌜ (d ≤ width) × (d + d ≤ length (rowsIn (now basis))) ⌝ }
-    ensures { λ _. ⌜ (take d (rowsIn (now (basis .exit))) ≡ take d (rowsIn (now (basis .entry)))) × (take d (drop d (rowsIn (now (basis .exit)))) ≡ take d (rowsIn (now (basis .entry)))) ⌝ }
-{
-    for i in 0..d {
-        blocks::put(basis, d + i, blocks::row(basis, i));
-    }
-}
-
-// Behind the members, their reduced basis. Of the Gram rows those behind them serve for the transform.
-pub(crate) fn put_reduced(basis: &mut [u64], gram: &mut [u64], d: usize)
-    requires { ⌜ (d ≤ width) × (d + d ≤ length (rowsIn (now basis))) × (d + d ≤ length (rowsIn (now gram))) ⌝ }
-    ensures { λ _. ⌜ (take d (rowsIn (now (basis .exit))) ≡ take d (rowsIn (now (basis .entry)))) × (take d (rowsIn (now (gram .exit))) ≡ take d (rowsIn (now (gram .entry))))
-        × (take d (drop d (rowsIn (now (basis .exit)))) ≡ reducedBasis width (take d (rowsIn (now (basis .entry))))) ⌝ }
-{
-    put_again(basis, d);
-    let mut pivots = [0; WIDTH];
-    let b = blocks::start(&basis[..], d);
-    let s = blocks::start(&gram[..], d);
-    // as many rows are reduced as there is room for pivots
-    reduction::row_reduce_with_transform(WIDTH, &mut basis[b..], &mut gram[s..], &mut pivots[..d]);
-}
 
 // The draw that the level of dimension d from row `at` on keeps.
 fn draw_at(basis: &[u64], at: usize, d: usize) -> Row

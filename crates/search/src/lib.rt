@@ -4,7 +4,8 @@
 // dimension d these are d rows of each; d more are for the sums of the first Gram rows, and behind the members for their reduced basis,
 // then, where the space has a good basis, for the draw by its coefficients. Behind them stands, in the same way, the space that the draw
 // passes on.
-mod levels; // levels.rt: the first space, the reduced basis of one, and the draws that are kept
+mod levels; // levels.rt: the first space, and the draws that are kept
+mod remembers; // remembers.rt: a space looked up and entered, by its reduced basis
 
 use binar::Row;
 use binar::WIDTH;
@@ -12,7 +13,7 @@ use memory::ENTRY;
 use triangular::Ending;
 ghost use mathlib.Core.Path.{_≡_};
 ghost use mathlib.Core.Bool.{true};
-ghost use mathlib.Core.List.{List, [], _++_};
+ghost use mathlib.Core.List.{List, []};
 ghost use Prim.Native.Nat.{ℕ, _+_, _-_, _^_, _≤_, _<_};
 ghost use lib.ListN.{length, take, drop};
 ghost use Rattle.binar.specs.Bits.{dot};
@@ -21,16 +22,13 @@ ghost use Rattle.blocks.specs.Matrices.{times};
 ghost use Rattle.blocks.specs.Words.{rowsIn, over};
 ghost use Rattle.residue.specs.Residue.{form};
 ghost use Rattle.triangular.specs.declared.Ending.the-variants.{Failed};
-ghost use Rattle.triangular.specs.Spaces.{complement, isAlternating};
+ghost use Rattle.triangular.specs.Spaces.{complement};
 ghost use Rattle.triangular.specs.Search.{budgeted};
-ghost use Rattle.triangular.specs.Memory.{Entry, reducedBasis, holds, drawsWith, searchWith, searchedCore, knownWithin};
+ghost use Rattle.triangular.specs.Memory.{Entry, drawsWith, searchWith, searchedCore, knownWithin};
 ghost use Rattle.triangular.specs.Readings.{coreIn, verdictOf, basisFound};
-ghost use Rattle.memory.specs.Entries.{memoryWords, roomIn, entered, taken};
-ghost use Rattle.memory.specs.inner.Kept.{Kept};
-ghost use Rattle.spaces.specs.Levels.{gramOf};
+ghost use Rattle.memory.specs.Entries.{memoryWords, roomIn};
 ghost use Rattle.search.specs.inner.Levels.{levels, foundIn};
 ghost use Rattle.search.specs.inner.Reports.{Space, Carries, Grew, Reports};
-ghost use Rattle.search.specs.inner.Asked.{Known};
 
 // How a search ended, and how many draws have been taken by then.
 pub struct Ended {
@@ -50,36 +48,6 @@ enum Asked {
     Held,
     Alternating,
     Open,
-}
-
-// Puts the reduced basis of a space behind its members, and asks whether the memory holds it, then whether it is alternating.
-fn ask(basis: &mut [u64], gram: &mut [u64], memory: &[u64], d: usize, used: usize) -> Asked
-    requires { ⌜ (0 < d) × (d ≤ width) × (d + d ≤ length (rowsIn (now basis))) × (d + d ≤ length (rowsIn (now gram))) × (used ≤ length (now memory)) ⌝ }
-    ensures { λ r. ⌜ (take d (rowsIn (now (basis .exit))) ≡ take d (rowsIn (now (basis .entry)))) × (take d (rowsIn (now (gram .exit))) ≡ take d (rowsIn (now (gram .entry))))
-        × (take d (drop d (rowsIn (now (basis .exit)))) ≡ reducedBasis width (take d (rowsIn (now (basis .entry)))))
-        × ((E : List ℕ) (M : List Entry) → gramOf E (take d (rowsIn (now (basis .entry)))) ≡ take d (rowsIn (now (gram .entry))) → Kept (now (memory .entry)) used M
-        → Known r (holds d (reducedBasis width (take d (rowsIn (now (basis .entry))))) M) (isAlternating (form E) (take d (rowsIn (now (basis .entry)))))) ⌝ }
-{
-    levels::put_reduced(basis, gram, d);
-    let b = blocks::start(&basis[..], d);
-    let c = blocks::start(&basis[..], d + d);
-    if memory::holds(&memory[..used], &basis[b..c]) {
-        return Asked::Held;
-    }
-    if spaces::is_alternating(&gram[..], d) {
-        return Asked::Alternating;
-    }
-    Asked::Open
-}
-
-// Enters a space that failed, by the reduced basis behind its members; answers how many words are then in use.
-fn note(memory: &mut [u64], used: usize, basis: &[u64], d: usize) -> usize
-    requires { ⌜ (used ≤ length (now memory)) × (d ≤ width) × (d + d ≤ length (rowsIn (now basis))) ⌝ }
-    ensures { λ r. ⌜ (r ≡ used + taken (drop used (now (memory .entry)))) × (now (memory .exit) ≡ take used (now (memory .entry)) ++ entered (take d (drop d (rowsIn (now (basis .entry))))) (drop used (now (memory .entry)))) ⌝ }
-{
-    let b = blocks::start(basis, d);
-    let c = blocks::start(basis, d + d);
-    used + memory::enter(&mut memory[used..], &basis[b..c])
 }
 
 // The search of what a draw passes on: g, the Gram rows of the draw, says which members it has form one with. Where no memory is lent,
@@ -160,7 +128,7 @@ fn try_space(
         → Reports budget (searchWith (form E) width (roomIn (now (memory .entry))) d (take d (rowsIn (now (basis .entry)))) looks M)
         (r .ending) (r .looks) (foundIn d (rowsIn (now (basis .exit)))) (now (memory .exit)) (r .used)) ⌝ }
 {
-    let asked = ask(basis, gram, &memory[..], d, used);
+    let asked = remembers::ask(basis, gram, &memory[..], d, used);
     match asked {
         Asked::Held => {
             return Step {
@@ -173,7 +141,7 @@ fn try_space(
             return Step {
                 ending: Ending::Failed,
                 looks: looks,
-                used: note(memory, used, &basis[..], d),
+                used: remembers::note(memory, used, &basis[..], d),
             };
         }
         Asked::Open => {}
@@ -184,7 +152,7 @@ fn try_space(
         Ending::Failed => Step {
             ending: Ending::Failed,
             looks: o.looks,
-            used: note(memory, o.used, &basis[..], d),
+            used: remembers::note(memory, o.used, &basis[..], d),
         },
         _ => o,
     }

@@ -32,9 +32,9 @@ use Rattle.binar.proofs.zero.Reads as zero-reads
 use Rattle.blocks.proofs.put.Reads as put-reads
 use Rattle.blocks.proofs.row.Reads as row-reads
 use Rattle.blocks.proofs.start.Reads as start-reads
-use Rattle.search.proofs.ask.Reads as ask-reads
+use Rattle.search.proofs.remembers.ask.Reads as ask-reads
 use Rattle.spaces.proofs.is_alternating.Reads as is-alternating-reads
-use Rattle.search.proofs.note.Reads as note-reads
+use Rattle.search.proofs.remembers.note.Reads as note-reads
 use Rattle.spaces.proofs.pass_gram.Reads as pass-gram-reads
 use Rattle.spaces.proofs.pass_members.Reads as pass-members-reads
 use Rattle.spaces.proofs.sums.Reads as sums-reads

@@ -21,8 +21,8 @@ use Rattle.memory.proofs.Kept.{kept-held}
 use Rattle.spaces.specs.Levels.{below, gramOf, formIn}
 use Rattle.spaces.proofs.Grams.{tested-form}
 use borrow.Author.Needs.{needs}
-use Rattle.search.proofs.ask.Statement.{statement}
-use Rattle.search.proofs.ask.Tie as tie
+use Rattle.search.proofs.remembers.ask.Statement.{statement}
+use Rattle.search.proofs.remembers.ask.Tie as tie
 
 -- where the memory has been asked
 module _ (c : tie.After-holds) where

@@ -10,8 +10,8 @@ use Rattle.binar.specs.Rows.{val}
 use Rattle.blocks.specs.Words.{rowsIn}
 use Rattle.search.proofs.LentLevels.{front-row, put-next, level-rows}
 use borrow.Author.Needs.{needs}
-use Rattle.search.proofs.levels.put_again.Statement.{statement}
-use Rattle.search.proofs.levels.put_again.Tie as tie
+use Rattle.search.proofs.remembers.put_again.Statement.{statement}
+use Rattle.search.proofs.remembers.put_again.Tie as tie
 
 abbrev Inv-loop : tie.InvT-loop
 Inv-loop basis₀ d i₀ basis i = (i ≤ d) × (length basis ≡ length basis₀) × (length (rowsIn basis) ≡ length (rowsIn basis₀)) × (take d (rowsIn basis) ≡ take d (rowsIn basis₀))

@@ -10,8 +10,8 @@ use Rattle.blocks.proofs.Lent.{lent-part, words-mono}
 use Rattle.memory.specs.Entries.{entered, taken}
 use Rattle.memory.proofs.Kept.{entered-rest}
 use borrow.Author.Needs.{needs}
-use Rattle.search.proofs.note.Statement.{statement}
-use Rattle.search.proofs.note.Tie as tie
+use Rattle.search.proofs.remembers.note.Statement.{statement}
+use Rattle.search.proofs.remembers.note.Tie as tie
 
 -- the words past those in use, lent as they are
 rest-is : (ws : List ℕ) (used : ℕ) → take (length ws - used) (drop used ws) ≡ drop used ws

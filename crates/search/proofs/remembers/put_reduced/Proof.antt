@@ -13,8 +13,8 @@ use Rattle.triangular.specs.Memory.{reducedBasis}
 use Rattle.search.proofs.LentLevels.{back-front, back-rest}
 use Rattle.search.proofs.Reduces.{reduced-front}
 use borrow.Author.Needs.{needs}
-use Rattle.search.proofs.levels.put_reduced.Statement.{statement}
-use Rattle.search.proofs.levels.put_reduced.Tie as tie
+use Rattle.search.proofs.remembers.put_reduced.Statement.{statement}
+use Rattle.search.proofs.remembers.put_reduced.Tie as tie
 
 put-again-requires : tie.Need-put-again-requires
 put-again-requires c κs = search needs
