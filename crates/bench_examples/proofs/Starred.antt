@@ -15,7 +15,7 @@ use Rattle.residue.specs.Residue.{residue, reduction, basis, transform, timesTr
 use Rattle.shorter.specs.Shorter.{shorterOf, shorterReply, partOf}
 use Rattle.fixed_space.specs.FixedSpace.{kernel, reducedBasis, fixedSpace, fixedReply}
 use Rattle.triangular.specs.Search.{draws, search, budgeted}
-use Rattle.triangular.specs.Memory.{reducedBasis as entryBasis, isSpace, holds, enter, drawsWith, searchWith, knownWithin}
+use Rattle.triangular.specs.Memory.{entryBasis, isSpace, holds, enter, drawsWith, searchWith, knownWithin}
 use Rattle.triangular.specs.Spaces.{complement, symmetricWith, isAlternating}
 use Rattle.bordered.specs.Checks.{unitLower, validate, verifiesBordered, checkedList, borderedList}
 use Rattle.family.specs.Family.{splitAt, withPartner, fromFirst, symplecticSimplex, peeled, borderedFamily}

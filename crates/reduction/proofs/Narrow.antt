@@ -1,6 +1,6 @@
 -- Columns that no row has change nothing: rows of m columns are reduced by their first m columns.
 -- Assumes nothing.
-use mathlib.Core.Path.{_≡_, refl, sym, ap, _∙_, subst}
+use mathlib.Core.Path.{_≡_, refl, sym, ap, _∙_}
 use mathlib.Core.Bool.{Bool, false}
 use mathlib.Core.List.{List, [], _∷_, map}
 use Prim.Native.Nat.{ℕ, zero, suc, _+_, _-_, _^_, _≤_, _<_}
@@ -10,7 +10,7 @@ use Rattle.binar.specs.Bits.{bit, _⊕_}
 use Rattle.binar.proofs.Sums.{bit-of-zero}
 use Rattle.blocks.specs.Matrices.{All}
 use Rattle.blocks.proofs.All.{All·map}
-use Rattle.reduction.specs.Columns.{Pulled, unpulled, behind, putIf, put, pullIf, pull, Echelon, unreduced, rows, column, columnBy, columns, rowReduceWithTransform}
+use Rattle.reduction.specs.Columns.{unpulled, behind, putIf, put, pullIf, pull, Echelon, unreduced, rows, column, columnBy, columns, rowReduceWithTransform}
 use Rattle.reduction.specs.inner.Plain.{reduced}
 use Rattle.reduction.proofs.Reduced.{reduced-zero}
 use Rattle.reduction.proofs.Transform.{all-reduced}

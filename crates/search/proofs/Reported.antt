@@ -13,7 +13,7 @@ use Rattle.binar.specs.Rows.{width}
 use Rattle.triangular.specs.declared.Ending.{Ending}
 use Rattle.triangular.specs.declared.Ending.the-variants.{Found, Failed, Spent}
 use Rattle.triangular.specs.Spaces.{isAlternating}
-use Rattle.triangular.specs.Memory.{Entry, reducedBasis, holds, enter, Remembered, drawsWith, searchWith, knownWithin}
+use Rattle.triangular.specs.Memory.{Entry, entryBasis, holds, enter, Remembered, drawsWith, searchWith, knownWithin}
 use Rattle.triangular.specs.Search.{ended, failed}
 use Rattle.triangular.specs.Readings.{verdictOf}
 use Rattle.triangular.proofs.Entries.{Stamped, holds-none}
@@ -77,13 +77,13 @@ module _ (E : ℕ → ℕ → Bool) (room budget looks : ℕ) (bs : List ℕ) (M
         → Reports budget (searchWith E width room d bs looks M) Failed k l ws used
     fails-by k N t l ws used kept = reports-by budget (searchWith E width room d bs looks M) Failed k l ws used N (says-failed Failed k l refl ∙ t .0, t .1) kept
 
-    pub held-reports : holds d (reducedBasis width bs) M ≡ true → (l ws : List ℕ) (used : ℕ) → Kept ws used M → Reports budget (searchWith E width room d bs looks M) Failed looks l ws used
+    pub held-reports : holds d (entryBasis width bs) M ≡ true → (l ws : List ℕ) (used : ℕ) → Kept ws used M → Reports budget (searchWith E width room d bs looks M) Failed looks l ws used
     held-reports e = fails-by looks M (space-held E width room budget looks bs M s h d some e)
 
-    module _ (unheld : holds d (reducedBasis width bs) M ≡ false) where
-      pub alternating-reports : isAlternating E bs ≡ true → (l ws : List ℕ) (used : ℕ) → Kept ws used (enter room (record { dimension = d; basis = reducedBasis width bs; looks = looks }) M)
+    module _ (unheld : holds d (entryBasis width bs) M ≡ false) where
+      pub alternating-reports : isAlternating E bs ≡ true → (l ws : List ℕ) (used : ℕ) → Kept ws used (enter room (record { dimension = d; basis = entryBasis width bs; looks = looks }) M)
           → Reports budget (searchWith E width room d bs looks M) Failed looks l ws used
-      alternating-reports a = fails-by looks (enter room (record { dimension = d; basis = reducedBasis width bs; looks = looks }) M) (space-alternating E width room budget looks bs M s h d some unheld a)
+      alternating-reports a = fails-by looks (enter room (record { dimension = d; basis = entryBasis width bs; looks = looks }) M) (space-alternating E width room budget looks bs M s h d some unheld a)
 
       -- what its draws came to
       module _ (open-is : isAlternating E bs ≡ false) (v : Ending) (k : ℕ) (l ws : List ℕ) (used : ℕ)
@@ -98,22 +98,22 @@ module _ (E : ℕ → ℕ → Bool) (room budget looks : ℕ) (bs : List ℕ) (M
             (came .1)
 
         pub failed-reports : v ≡ Failed → (l' ws' : List ℕ) (used' : ℕ)
-            → Kept ws' used' (enter room (record { dimension = d; basis = reducedBasis width bs; looks = k }) (knownWithin budget (drawsWith E width room (searchWith E width room (d - 1)) bs (2 ^ d - 1) 1 looks M .memory)))
+            → Kept ws' used' (enter room (record { dimension = d; basis = entryBasis width bs; looks = k }) (knownWithin budget (drawsWith E width room (searchWith E width room (d - 1)) bs (2 ^ d - 1) 1 looks M .memory)))
             → Reports budget (searchWith E width room d bs looks M) Failed k l' ws' used'
-        failed-reports is = fails-by k (enter room (record { dimension = d; basis = reducedBasis width bs; looks = k }) N) (open-failed E width room budget looks bs M s h d some unheld open-is v k l N (came .0, refl) is)
+        failed-reports is = fails-by k (enter room (record { dimension = d; basis = entryBasis width bs; looks = k }) N) (open-failed E width room budget looks bs M s h d some unheld open-is v k l N (came .0, refl) is)
 
     -- with room for no entry: nothing is held, and nothing entered
     module _ (empty : M ≡ []) (full : (e : Entry) (N : List Entry) → enter room e N ≡ N) where
-      none-held : holds d (reducedBasis width bs) M ≡ false
-      none-held = ap (holds d (reducedBasis width bs)) empty ∙ holds-none d (reducedBasis width bs)
+      none-held : holds d (entryBasis width bs) M ≡ false
+      none-held = ap (holds d (entryBasis width bs)) empty ∙ holds-none d (entryBasis width bs)
 
       pub plain-alternating : isAlternating E bs ≡ true → (l ws : List ℕ) (used : ℕ) → Kept ws used M → Reports budget (searchWith E width room d bs looks M) Failed looks l ws used
       plain-alternating a l ws used kept =
-          alternating-reports none-held a l ws used (subst (Kept ws used) (sym (full (record { dimension = d; basis = reducedBasis width bs; looks = looks }) M)) kept)
+          alternating-reports none-held a l ws used (subst (Kept ws used) (sym (full (record { dimension = d; basis = entryBasis width bs; looks = looks }) M)) kept)
 
       pub plain-reports : isAlternating E bs ≡ false → (v : Ending) (k : ℕ) (l ws : List ℕ) (used : ℕ)
           → Reports budget (drawsWith E width room (searchWith E width room (d - 1)) bs (2 ^ d - 1) 1 looks M) v k l ws used → Reports budget (searchWith E width room d bs looks M) v k l ws used
       plain-reports open-is Found k l ws used came = kept-reports none-held open-is Found k l ws used came (inl refl)
       plain-reports open-is Spent k l ws used came = kept-reports none-held open-is Spent k l ws used came (inr refl)
       plain-reports open-is Failed k l ws used came =
-          failed-reports none-held open-is Failed k l ws used came refl l ws used (subst (Kept ws used) (sym (full (record { dimension = d; basis = reducedBasis width bs; looks = k }) _)) (came .1))
+          failed-reports none-held open-is Failed k l ws used came refl l ws used (subst (Kept ws used) (sym (full (record { dimension = d; basis = entryBasis width bs; looks = k }) _)) (came .1))

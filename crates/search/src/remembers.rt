@@ -9,7 +9,7 @@ ghost use Rattle.binar.specs.Rows.{width};
 ghost use Rattle.blocks.specs.Words.{rowsIn};
 ghost use Rattle.residue.specs.Residue.{form};
 ghost use Rattle.triangular.specs.Spaces.{isAlternating};
-ghost use Rattle.triangular.specs.Memory.{Entry, reducedBasis, holds};
+ghost use Rattle.triangular.specs.Memory.{Entry, entryBasis, holds};
 ghost use Rattle.memory.specs.Entries.{entered, taken};
 ghost use Rattle.memory.specs.inner.Kept.{Kept};
 ghost use Rattle.spaces.specs.Levels.{gramOf};
@@ -29,7 +29,7 @@ fn put_again(basis: &mut [u64], d: usize)
 fn put_reduced(basis: &mut [u64], gram: &mut [u64], d: usize)
     requires { ⌜ (d ≤ width) × (d + d ≤ length (rowsIn (now basis))) × (d + d ≤ length (rowsIn (now gram))) ⌝ }
     ensures { λ _. ⌜ (take d (rowsIn (now (basis .exit))) ≡ take d (rowsIn (now (basis .entry)))) × (take d (rowsIn (now (gram .exit))) ≡ take d (rowsIn (now (gram .entry))))
-        × (take d (drop d (rowsIn (now (basis .exit)))) ≡ reducedBasis width (take d (rowsIn (now (basis .entry))))) ⌝ }
+        × (take d (drop d (rowsIn (now (basis .exit)))) ≡ entryBasis width (take d (rowsIn (now (basis .entry))))) ⌝ }
 {
     put_again(basis, d);
     let mut pivots = [0; WIDTH];
@@ -49,9 +49,9 @@ pub(crate) fn ask(
 ) -> Asked
     requires { ⌜ (0 < d) × (d ≤ width) × (d + d ≤ length (rowsIn (now basis))) × (d + d ≤ length (rowsIn (now gram))) × (used ≤ length (now memory)) ⌝ }
     ensures { λ r. ⌜ (take d (rowsIn (now (basis .exit))) ≡ take d (rowsIn (now (basis .entry)))) × (take d (rowsIn (now (gram .exit))) ≡ take d (rowsIn (now (gram .entry))))
-        × (take d (drop d (rowsIn (now (basis .exit)))) ≡ reducedBasis width (take d (rowsIn (now (basis .entry)))))
+        × (take d (drop d (rowsIn (now (basis .exit)))) ≡ entryBasis width (take d (rowsIn (now (basis .entry)))))
         × ((E : List ℕ) (M : List Entry) → gramOf E (take d (rowsIn (now (basis .entry)))) ≡ take d (rowsIn (now (gram .entry))) → Kept (now (memory .entry)) used M
-        → Known r (holds d (reducedBasis width (take d (rowsIn (now (basis .entry))))) M) (isAlternating (form E) (take d (rowsIn (now (basis .entry)))))) ⌝ }
+        → Known r (holds d (entryBasis width (take d (rowsIn (now (basis .entry))))) M) (isAlternating (form E) (take d (rowsIn (now (basis .entry)))))) ⌝ }
 {
     put_reduced(basis, gram, d);
     let b = blocks::start(&basis[..], d);

@@ -44,22 +44,10 @@ use Rattle.transvection_exact.proofs.Outcomes.{of-core}
 -- ---- a search x with the entries M beside document 01's, y
 
 module _ (E : Form 𝕎) (m : ℕ) where
-  follows-looks : (x : Outcome) (M : List Entry) (y : Outcome) → Follows E m x M y → looksOf x ≤ looksOf y
-  follows-looks (found ps l) M (found qs k) f = f .1
-  follows-looks (found ps l) M (failed k) f = absurd f
-  follows-looks (failed l) M (found qs k) f = absurd f
-  follows-looks (failed l) M (failed k) f = f .0
-
-  follows-dead : (x : Outcome) (M : List Entry) (y : Outcome) → Follows E m x M y → All (Dead E m) M
-  follows-dead (found ps l) M (found qs k) f = f .2
-  follows-dead (found ps l) M (failed k) f = absurd f
-  follows-dead (failed l) M (found qs k) f = absurd f
-  follows-dead (failed l) M (failed k) f = f .1
-
   follows-right : (d : ℕ) (bs : List ℕ) (x : Outcome) (M : List Entry) (y : Outcome) → Follows E m x M y → Right E d bs y → Right E d bs x
   follows-right d bs (found ps l) M (found qs k) f h = subst (λ (t : List ℕ). Right E d bs (found t l)) (sym (f .0)) h
-  follows-right d bs (found ps l) M (failed k) f h = absurd f
-  follows-right d bs (failed l) M (found qs k) f h = absurd f
+  follows-right d bs (found ps l) M (failed k) f h = absurd (f .0)
+  follows-right d bs (failed l) M (found qs k) f h = absurd (f .0)
   follows-right d bs (failed l) M (failed k) f h = h
 
 -- ---- the search on the core of an action
@@ -72,8 +60,7 @@ module _ (n : ℕ) (F : List ℕ) where
 
     -- what an entry means: no triangular basis of that space exists
     pub entries-dead : All (Dead (formOf (core n F)) (length (basis n F))) (coreSearchWith n F room .memory)
-    entries-dead =
-        let s = coreSearchWith n F room in follows-dead (formOf (core n F)) (length (basis n F)) (s .outcome) (s .memory) (coreSearch n F) follows
+    entries-dead = follows .2
 
     pub remembered-right : let r = length (basis n F) in Right (formOf (core n F)) r (units r) (coreSearchWith n F room .outcome)
     remembered-right =
@@ -119,9 +106,9 @@ module _ (n : ℕ) (F out : List ℕ) where
   beside-ended E m (found ps l) M (found qs k) f =
       let same = ap (λ (t : List ℕ). map (λ p. times p (basis n F)) t) (f .0) in
       (λ z. z, (λ h. (refl, (ap length same, ap (λ (vs : List ℕ). laid n vs out) same)), f .1))
-  beside-ended E m (found ps l) M (failed k) f = absurd f
-  beside-ended E m (failed l) M (found qs k) f = absurd f
-  beside-ended E m (failed l) M (failed k) f = beside-bordered (borderedList n F) l k (f .0)
+  beside-ended E m (found ps l) M (failed k) f = absurd (f .0)
+  beside-ended E m (failed l) M (found qs k) f = absurd (f .0)
+  beside-ended E m (failed l) M (failed k) f = beside-bordered (borderedList n F) l k (f .1)
 
   -- the budget is laid over both
   beside-budgeted : (budget : ℕ) (x y : Outcome) → looksOf x ≤ looksOf y → Beside (endedReply n F y out) (endedReply n F x out)
@@ -166,7 +153,7 @@ module _ (n : ℕ) (rows : List ℕ) (budget : ℕ) (memory out : List ℕ) wher
           let E = formOf (core n matrix) in
           let r = length (basis n matrix) in
           let f = follows n matrix (roomIn memory) in
-          beside-budgeted n matrix out budget (mine .outcome) (coreSearch n matrix) (follows-looks E r (mine .outcome) (mine .memory) (coreSearch n matrix) f)
+          beside-budgeted n matrix out budget (mine .outcome) (coreSearch n matrix) (f .1)
           (beside-ended n matrix out E r (mine .outcome) (mine .memory) (coreSearch n matrix) f)
       go (suc k) = beside-itself (refused (suc k) 0 out)
 

@@ -4,21 +4,20 @@ use mathlib.Core.Path.{_≡_, refl, sym, ap, ap₂, _∙_, subst}
 use mathlib.Core.Bool.{Bool, true, false}
 use mathlib.Core.List.{List, [], _∷_}
 use Prim.Native.Nat.{ℕ, zero, suc, _+_, _-_, _^_, _≤_, _<_}
-use native.Mathlib.Nat.{le-trans, not-suc-le-zero, lt-of-lt-of-le}
+use native.Mathlib.Nat.{le-refl, le-trans, not-suc-le-zero, lt-of-lt-of-le}
 use native.Mathlib.Numerals.{add-one, sub-one}
 use native.Mathlib.Omega.{arith}
 use borrow.Author.Tests.{lt-leb, le-leb, leb-true, leb-false}
-use lib.Dec.{leb, ltb}
-use lib.ListN.{length}
+use lib.Dec.{leb}
 use Rattle.blocks.specs.Matrices.{times}
-use Rattle.blocks.proofs.All.{All·map, All·append}
+use Rattle.blocks.proofs.All.{All·map}
 use Rattle.triangular.specs.declared.Ending.{Ending}
 use Rattle.triangular.specs.declared.Ending.the-variants.{Found, Failed, Spent}
 use Rattle.triangular.specs.Spaces.{complement, isAlternating}
 use Rattle.triangular.specs.Search.{Outcome, found, failed, looksOf, Verdict, ended, spent, endedIf, budgeted}
-use Rattle.triangular.specs.Memory.{Entry, reducedBasis, holds, enterIf, enter, Remembered, unlessHeld, unlessAlternates, noted, afterRestWith, drawWith, drawsWith, searchWith, knownWithin}
+use Rattle.triangular.specs.Memory.{Entry, entryBasis, holds, enter, Remembered, unlessFails, noted, afterRestWith, drawWith, drawsWith, searchWith, knownWithin}
 use Rattle.triangular.specs.Readings.{verdictOf}
-use Rattle.triangular.proofs.Entries.{Stamped, known-all, known-past, stamped-on}
+use Rattle.triangular.proofs.Entries.{enter-all, Stamped, known-all, known-past, stamped-on}
 use Rattle.triangular.proofs.Grows.{Grown, Grows, after-grows, noted-after, draw-grows, draws-grow, search-grows}
 
 -- ---- the verdict
@@ -88,22 +87,13 @@ module _ (budget : ℕ) where
 -- ---- a space
 
 space-step : (E : ℕ → ℕ → Bool) (m room looks : ℕ) (bs : List ℕ) (M : List Entry) (d : ℕ) → 0 < d
-    → searchWith E m room d bs looks M ≡ unlessHeld (holds d (reducedBasis m bs) M)
-    (λ n N. let r = unlessAlternates (isAlternating E bs) (drawsWith E m room (searchWith E m room (d - 1)) bs (2 ^ d - 1) 1) n N in noted room d (reducedBasis m bs) (r .outcome) (r .memory)) looks M
+    → searchWith E m room d bs looks M ≡ unlessFails (holds d (entryBasis m bs) M)
+    (λ n N. let r = unlessFails (isAlternating E bs) (drawsWith E m room (searchWith E m room (d - 1)) bs (2 ^ d - 1) 1) n N in noted room d (entryBasis m bs) (r .outcome) (r .memory)) looks M
 unfolding searchWith
 space-step E m room looks bs M zero h = absurd (not-suc-le-zero h)
 space-step E m room looks bs M (suc d) h =
-    ap (λ k. unlessHeld (holds (suc d) (reducedBasis m bs) M)
-    (λ n N. let r = unlessAlternates (isAlternating E bs) (drawsWith E m room (searchWith E m room k) bs (2 ^ suc d - 1) 1) n N in noted room (suc d) (reducedBasis m bs) (r .outcome) (r .memory)) looks M) (sym (sub-one (suc d)))
-
--- an entry that is made now is as old as the looks
-entered-stamped : (room looks : ℕ) (e : Entry) (M : List Entry) → e .looks ≡ looks → Stamped looks M → Stamped looks (enter room e M)
-unfolding enter
-entered-stamped room looks e M is s = go (ltb (length M) room)
-  where
-    go : (b : Bool) → Stamped looks (enterIf b e M)
-    go true = All·append (λ e. e .looks ≤ looks) M (e ∷ []) s (omega (arith, is), tt)
-    go false = s
+    ap (λ k. unlessFails (holds (suc d) (entryBasis m bs) M)
+    (λ n N. let r = unlessFails (isAlternating E bs) (drawsWith E m room (searchWith E m room k) bs (2 ^ suc d - 1) 1) n N in noted room (suc d) (entryBasis m bs) (r .outcome) (r .memory)) looks M) (sym (sub-one (suc d)))
 
 module _ (E : ℕ → ℕ → Bool) (m room budget looks : ℕ) (bs : List ℕ) (M : List Entry) (s : Stamped looks M) (h : looks ≤ budget) where
   pub space-empty : (d : ℕ) → d ≡ 0 → Told budget (searchWith E m room d bs looks M) (ended (found [] looks)) M
@@ -115,24 +105,24 @@ module _ (E : ℕ → ℕ → Bool) (m room budget looks : ℕ) (bs : List ℕ) 
     all = drawsWith E m room (searchWith E m room (d - 1)) bs (2 ^ d - 1) 1
 
     abbrev note : Outcome → List Entry → Remembered
-    note = noted room d (reducedBasis m bs)
+    note = noted room d (entryBasis m bs)
 
     abbrev asked : Bool → Bool → Remembered
-    asked a b = unlessHeld a (λ n N. let r = unlessAlternates b all n N in note (r .outcome) (r .memory)) looks M
+    asked a b = unlessFails a (λ n N. let r = unlessFails b all n N in note (r .outcome) (r .memory)) looks M
 
-    answered : (a b : Bool) → holds d (reducedBasis m bs) M ≡ a → isAlternating E bs ≡ b → searchWith E m room d bs looks M ≡ asked a b
+    answered : (a b : Bool) → holds d (entryBasis m bs) M ≡ a → isAlternating E bs ≡ b → searchWith E m room d bs looks M ≡ asked a b
     answered a b e f = space-step E m room looks bs M d some ∙ ap₂ asked e f
 
-    pub space-held : holds d (reducedBasis m bs) M ≡ true → Told budget (searchWith E m room d bs looks M) (ended (failed looks)) M
+    pub space-held : holds d (entryBasis m bs) M ≡ true → Told budget (searchWith E m room d bs looks M) (ended (failed looks)) M
     space-held e = subst (λ r. Told budget r (ended (failed looks)) M) (sym (answered true (isAlternating E bs) e refl)) (tells-ended budget (failed looks) M h s)
 
-    module _ (unheld : holds d (reducedBasis m bs) M ≡ false) where
+    module _ (unheld : holds d (entryBasis m bs) M ≡ false) where
       pub space-alternating : isAlternating E bs ≡ true
-          → Told budget (searchWith E m room d bs looks M) (ended (failed looks)) (enter room (record { dimension = d; basis = reducedBasis m bs; looks = looks }) M)
+          → Told budget (searchWith E m room d bs looks M) (ended (failed looks)) (enter room (record { dimension = d; basis = entryBasis m bs; looks = looks }) M)
       space-alternating a =
-          let e : Entry = record { dimension = d; basis = reducedBasis m bs; looks = looks } in
+          let e : Entry = record { dimension = d; basis = entryBasis m bs; looks = looks } in
           subst (λ r. Told budget r (ended (failed looks)) (enter room e M)) (sym (answered false true unheld a))
-          (tells-ended budget (failed looks) (enter room e M) h (entered-stamped room looks e M refl s))
+          (tells-ended budget (failed looks) (enter room e M) h (enter-all (λ e. e .looks ≤ looks) room e M (le-refl looks) s))
 
       module _ (open-is : isAlternating E bs ≡ false) (v : Ending) (k : ℕ) (l : List ℕ) (N : List Entry)
           (told : Told budget (drawsWith E m room (searchWith E m room (d - 1)) bs (2 ^ d - 1) 1 looks M) (verdictOf v k l) N) where
@@ -157,21 +147,21 @@ module _ (E : ℕ → ℕ → Bool) (m room budget looks : ℕ) (bs : List ℕ) 
             let e = says-spent v k l is in
             let f = of-spent budget (w .outcome) k (sym e ∙ told .0) in
             let r = note (w .outcome) (w .memory) in
-            let t = tells-spent budget (w .outcome) (r .outcome) (w .memory) (r .memory) (f .1) (noted-after room d (reducedBasis m bs) (w .outcome) (w .memory)) in
+            let t = tells-spent budget (w .outcome) (r .outcome) (w .memory) (r .memory) (f .1) (noted-after room d (entryBasis m bs) (w .outcome) (w .memory)) in
             by-note (verdictOf v k l) N (e ∙ ap spent (f .0) ∙ t .0, told .1 ∙ t .1)
 
         -- failed: it is entered now
         pub open-failed : v ≡ Failed
-            → Told budget (searchWith E m room d bs looks M) (ended (failed k)) (enter room (record { dimension = d; basis = reducedBasis m bs; looks = k }) N)
+            → Told budget (searchWith E m room d bs looks M) (ended (failed k)) (enter room (record { dimension = d; basis = entryBasis m bs; looks = k }) N)
         open-failed is =
             let f = of-ended budget (w .outcome) (failed k) (sym (says-failed v k l is) ∙ told .0) in
             let old : Stamped k (w .memory) = subst (λ o. Stamped (looksOf o) (w .memory)) (sym (f .0)) (stamped-on looks M (w .outcome) (w .memory) s grown) in
             let fits : k ≤ budget = subst (λ o. looksOf o ≤ budget) (sym (f .0)) (f .1) in
             let same : N ≡ w .memory = told .1 ∙ known-all budget (w .memory) (All·map (λ e n. le-trans n fits) (w .memory) old) in
-            let e : Entry = record { dimension = d; basis = reducedBasis m bs; looks = k } in
+            let e : Entry = record { dimension = d; basis = entryBasis m bs; looks = k } in
             subst (λ (L : List Entry). Told budget (searchWith E m room d bs looks M) (ended (failed k)) (enter room e L)) (sym same)
             (by-note (ended (failed k)) (enter room e (w .memory)) (subst (λ o. Told budget (note o (w .memory)) (ended (failed k)) (enter room e (w .memory))) (f .0)
-            (tells-ended budget (failed k) (enter room e (w .memory)) fits (entered-stamped room k e (w .memory) refl old))))
+            (tells-ended budget (failed k) (enter room e (w .memory)) fits (enter-all (λ e. e .looks ≤ k) room e (w .memory) (le-refl k) old))))
 
 -- the loop begins
 pub space-begun : (E : ℕ → ℕ → Bool) (m room budget looks : ℕ) (bs : List ℕ) (M : List Entry) (d last c : ℕ) → last ≡ 2 ^ d - 1 → c ≡ 0

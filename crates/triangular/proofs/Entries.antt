@@ -17,30 +17,30 @@ use Rattle.symplectic.specs.Matches.{sameRows}
 use Rattle.reduction.specs.Columns.{rows, rowReduceWithTransform}
 use Rattle.reduction.proofs.Transform.{row-is, transform-length}
 use Rattle.triangular.specs.Search.{Outcome, looksOf}
-use Rattle.triangular.specs.Memory.{Entry, reducedBasis, isSpace, holds, enterIf, enter, keepIf, knownWithin}
+use Rattle.triangular.specs.Memory.{Entry, entryBasis, isSpace, holds, enterIf, enter, keepIf, knownWithin}
 use Rattle.triangular.proofs.Grows.{Grown}
 
 -- ---- a space as it is entered
 
 module _ (m : ℕ) (bs : List ℕ) where
-  pub reduced-is : reducedBasis m bs ≡ map (λ a. a .0) (rows (rowReduceWithTransform m bs))
-  unfolding reducedBasis
+  pub reduced-is : entryBasis m bs ≡ map (λ a. a .0) (rows (rowReduceWithTransform m bs))
+  unfolding entryBasis
   reduced-is = refl
 
   -- each row is a sum of members
-  pub reduced-spans : All (InSpan 𝕎 bs) (reducedBasis m bs)
+  pub reduced-spans : All (InSpan 𝕎 bs) (entryBasis m bs)
   reduced-spans =
       let rs = rows (rowReduceWithTransform m bs) in
       subst (All (InSpan 𝕎 bs)) (sym reduced-is)
       (All·to-map (λ a. a .0) (InSpan 𝕎 bs) rs (All·map (λ a e. subst (InSpan 𝕎 bs) (sym e) (times-in (a .1) bs)) rs (row-is m bs)))
 
   -- as many rows as members
-  pub reduced-size : length (reducedBasis m bs) ≡ length bs
+  pub reduced-size : length (entryBasis m bs) ≡ length bs
   reduced-size = ap length reduced-is ∙ length-map (rows (rowReduceWithTransform m bs)) (λ a. a .0) ∙ transform-length m bs
 
   -- of the same columns
-  pub reduced-within : (k : ℕ) → All (λ v. v < 2 ^ k) bs → All (λ v. v < 2 ^ k) (reducedBasis m bs)
-  reduced-within k small = All·map (λ x h. span-lt k bs small x h) (reducedBasis m bs) reduced-spans
+  pub reduced-within : (k : ℕ) → All (λ v. v < 2 ^ k) bs → All (λ v. v < 2 ^ k) (entryBasis m bs)
+  reduced-within k small = All·map (λ x h. span-lt k bs small x h) (entryBasis m bs) reduced-spans
 
 -- ---- those that it holds, and one more
 
@@ -51,6 +51,15 @@ holds-none d rs = refl
 pub holds-first : (d : ℕ) (rs : List ℕ) (e : Entry) (M : List Entry) → holds d rs (e ∷ M) ≡ (eqb (e .dimension) d && sameRows (e .basis) rs) || holds d rs M
 unfolding holds isSpace
 holds-first d rs e M = refl
+
+-- what holds of the entries and of one more
+pub enter-all : (P : Entry → Type 0) (room : ℕ) (e : Entry) (M : List Entry) → P e → All P M → All P (enter room e M)
+unfolding enter
+enter-all P room e M h a = go (ltb (length M) room)
+  where
+    go : (b : Bool) → All P (enterIf b e M)
+    go true = All·append P M (e ∷ []) a (h, tt)
+    go false = a
 
 pub enter-is : (room : ℕ) (e : Entry) (M : List Entry) → enter room e M ≡ enterIf (ltb (length M) room) e M
 unfolding enter

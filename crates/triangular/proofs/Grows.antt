@@ -11,7 +11,7 @@ use Rattle.blocks.specs.Matrices.{times, All}
 use Rattle.blocks.proofs.All.{All·map, All·append}
 use Rattle.triangular.specs.Spaces.{complement, isAlternating}
 use Rattle.triangular.specs.Search.{Outcome, found, failed, looksOf}
-use Rattle.triangular.specs.Memory.{Entry, reducedBasis, holds, enterIf, enter, Remembered, unlessHeld, unlessAlternates, noted, afterRestWith, drawWith, drawsWith, searchWith}
+use Rattle.triangular.specs.Memory.{Entry, entryBasis, holds, enterIf, enter, Remembered, unlessFails, noted, afterRestWith, drawWith, drawsWith, searchWith}
 
 -- from looks and M on to an outcome and N
 pub record Grown (looks : ℕ) (M : List Entry) (o : Outcome) (N : List Entry) : Type 0 where
@@ -85,21 +85,17 @@ module _ (E : ℕ → ℕ → Bool) (m room : ℕ) where
       let r = drawWith (E p p) p (sub rest) (drawsWith E m room sub bs k (suc c)) looks M in
       grown-less looks (suc looks) M (r .outcome) (r .memory) (le-suc looks) (draw-grows (E p p) p (sub rest) (drawsWith E m room sub bs k (suc c)) (h rest) (draws-grow sub h bs k (suc c)) looks M)
 
-  alternates-grow : (b : Bool) (go : ℕ → List Entry → Remembered) → Grows go → Grows (unlessAlternates b go)
-  alternates-grow true go h looks M = grown-same looks M (failed looks) (le-refl looks)
-  alternates-grow false go h looks M = h looks M
-
-  held-grows : (b : Bool) (go : ℕ → List Entry → Remembered) → Grows go → Grows (unlessHeld b go)
-  held-grows true go h looks M = grown-same looks M (failed looks) (le-refl looks)
-  held-grows false go h looks M = h looks M
+  unless-grows : (b : Bool) (go : ℕ → List Entry → Remembered) → Grows go → Grows (unlessFails b go)
+  unless-grows true go h looks M = grown-same looks M (failed looks) (le-refl looks)
+  unless-grows false go h looks M = h looks M
 
   pub search-grows : (d : ℕ) (bs : List ℕ) → Grows (searchWith E m room d bs)
   unfolding searchWith
   search-grows zero bs looks M = grown-same looks M (found [] looks) (le-refl looks)
   search-grows (suc d) bs looks M =
-      let rs = reducedBasis m bs in
+      let rs = entryBasis m bs in
       let all = drawsWith E m room (searchWith E m room d) bs (2 ^ suc d - 1) 1 in
-      let go = unlessAlternates (isAlternating E bs) all in
-      held-grows (holds (suc d) rs M) (λ n N. let r = go n N in noted room (suc d) rs (r .outcome) (r .memory))
+      let go = unlessFails (isAlternating E bs) all in
+      unless-grows (holds (suc d) rs M) (λ n N. let r = go n N in noted room (suc d) rs (r .outcome) (r .memory))
       (λ n N. noted-grows room (suc d) rs n N (go n N .outcome) (go n N .memory)
-      (alternates-grow (isAlternating E bs) all (draws-grow (searchWith E m room d) (search-grows d) bs (2 ^ suc d - 1) 1) n N)) looks M
+      (unless-grows (isAlternating E bs) all (draws-grow (searchWith E m room d) (search-grows d) bs (2 ^ suc d - 1) 1) n N)) looks M

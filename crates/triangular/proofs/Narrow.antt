@@ -10,12 +10,12 @@ use Rattle.linear.proofs.Instances.{𝕎}
 use Rattle.linear.proofs.Rows.{span-lt}
 use Rattle.reduction.proofs.Narrow.{narrow-rows}
 use Rattle.triangular.specs.Spaces.{complement, isAlternating}
-use Rattle.triangular.specs.Memory.{Entry, reducedBasis, holds, Remembered, unlessHeld, unlessAlternates, noted, drawWith, drawsWith, searchWith}
+use Rattle.triangular.specs.Memory.{Entry, entryBasis, holds, Remembered, unlessFails, noted, drawWith, drawsWith, searchWith}
 use Rattle.triangular.proofs.Complements.{complement-in}
 use Rattle.triangular.proofs.Entries.{reduced-is}
 
 module _ (E : Form 𝕎) (m k room : ℕ) (more : m ≤ k) where
-  narrow-basis : (bs : List ℕ) → All (λ v. v < 2 ^ m) bs → reducedBasis k bs ≡ reducedBasis m bs
+  narrow-basis : (bs : List ℕ) → All (λ v. v < 2 ^ m) bs → entryBasis k bs ≡ entryBasis m bs
   narrow-basis bs small = reduced-is k bs ∙ narrow-rows m k bs more small ∙ sym (reduced-is m bs)
 
   narrow-draws : (sub sub′ : List ℕ → ℕ → List Entry → Remembered) → ((bs : List ℕ) → All (λ v. v < 2 ^ m) bs → _≡_ {A = ℕ → List Entry → Remembered} (sub bs) (sub′ bs))
@@ -32,6 +32,6 @@ module _ (E : Form 𝕎) (m k room : ℕ) (more : m ≤ k) where
   unfolding searchWith
   narrow-search zero bs small = fun-ext (λ n. fun-ext (λ N. refl))
   narrow-search (suc d) bs small =
-      fun-ext (λ n. fun-ext (λ N. ap₂ (λ (rs : List ℕ) (all : ℕ → List Entry → Remembered). let go = unlessAlternates (isAlternating (E .at) bs) all in
-      unlessHeld (holds (suc d) rs N) (λ i L. let r = go i L in noted room (suc d) rs (r .outcome) (r .memory)) n N)
+      fun-ext (λ n. fun-ext (λ N. ap₂ (λ (rs : List ℕ) (all : ℕ → List Entry → Remembered). let go = unlessFails (isAlternating (E .at) bs) all in
+      unlessFails (holds (suc d) rs N) (λ i L. let r = go i L in noted room (suc d) rs (r .outcome) (r .memory)) n N)
       (narrow-basis bs small) (narrow-draws (searchWith (E .at) k room d) (searchWith (E .at) m room d) (narrow-search d) bs small (2 ^ suc d - 1) 1)))

@@ -20,9 +20,9 @@ pub record Entry : Type 0 where
   pub basis : List ℕ
   pub looks : ℕ
 
--- the reduced basis of a space of m columns: its members reduced by these
-unfoldable pub reducedBasis : ℕ → List ℕ → List ℕ
-reducedBasis m bs = map (λ a. a .0) (rows (rowReduceWithTransform m bs))
+-- the reduced basis of a space of m columns: its members reduced by these, as many rows
+unfoldable pub entryBasis : ℕ → List ℕ → List ℕ
+entryBasis m bs = map (λ a. a .0) (rows (rowReduceWithTransform m bs))
 
 -- whether an entry is the space of dimension d with this reduced basis; whether one of the entries is
 unfoldable pub isSpace : ℕ → List ℕ → Entry → Bool
@@ -47,15 +47,10 @@ pub record Remembered : Type 0 where
   pub outcome : Outcome
   pub memory : List Entry
 
--- a space that is held fails without a draw
-abbrev pub unlessHeld : Bool → (ℕ → List Entry → Remembered) → ℕ → List Entry → Remembered
-unlessHeld true go looks M = record { outcome = failed looks; memory = M }
-unlessHeld false go looks M = go looks M
-
--- so does one that is alternating
-abbrev pub unlessAlternates : Bool → (ℕ → List Entry → Remembered) → ℕ → List Entry → Remembered
-unlessAlternates true go looks M = record { outcome = failed looks; memory = M }
-unlessAlternates false go looks M = go looks M
+-- a space that is held, or is alternating, fails without a draw
+abbrev pub unlessFails : Bool → (ℕ → List Entry → Remembered) → ℕ → List Entry → Remembered
+unlessFails true go looks M = record { outcome = failed looks; memory = M }
+unlessFails false go looks M = go looks M
 
 -- a space of dimension d with reduced basis rs is entered once it is known to fail
 abbrev pub noted : ℕ → ℕ → List ℕ → Outcome → List Entry → Remembered
@@ -83,9 +78,9 @@ module _ (E : ℕ → ℕ → Bool) (m room : ℕ) where
   unfoldable pub searchWith : ℕ → List ℕ → ℕ → List Entry → Remembered
   searchWith zero bs looks M = record { outcome = found [] looks; memory = M }
   searchWith (suc d) bs looks M =
-      let rs = reducedBasis m bs in
-      let go = unlessAlternates (isAlternating E bs) (drawsWith (searchWith d) bs (2 ^ suc d - 1) 1) in
-      unlessHeld (holds (suc d) rs M) (λ n N. let r = go n N in noted room (suc d) rs (r .outcome) (r .memory)) looks M
+      let rs = entryBasis m bs in
+      let go = unlessFails (isAlternating E bs) (drawsWith (searchWith d) bs (2 ^ suc d - 1) 1) in
+      unlessFails (holds (suc d) rs M) (λ n N. let r = go n N in noted room (suc d) rs (r .outcome) (r .memory)) looks M
 
 -- on a core E: all rows with as many columns as it has rows, begun from unit rows, and with nothing in the memory
 abbrev pub searchedCore : List ℕ → ℕ → Remembered

@@ -17,7 +17,7 @@ use Rattle.residue.specs.Residue.{form}
 use Rattle.triangular.specs.declared.Ending.{Ending}
 use Rattle.triangular.specs.declared.Ending.the-variants.{Found, Failed, Spent}
 use Rattle.triangular.specs.Spaces.{isAlternating}
-use Rattle.triangular.specs.Memory.{Entry, reducedBasis, holds, enter, drawsWith, searchWith, knownWithin}
+use Rattle.triangular.specs.Memory.{Entry, entryBasis, holds, enter, drawsWith, searchWith, knownWithin}
 use Rattle.triangular.proofs.Ending.{the-type}
 use Rattle.triangular.proofs.Entries.{reduced-size, reduced-within}
 use Rattle.memory.specs.Entries.{roomIn, entered}
@@ -57,14 +57,14 @@ module _ (t : ℕ) (c : try-space-lts.After-ask (space-claims t) (try-space-at t
 
   -- what the answer says of it
   known : (x : Asked) → c .ask .result ≡ x → (E : List ℕ) (M : List Entry) → Space E d (rowsIn (from .args .basis .now)) (rowsIn (from .args .gram .now)) → Carries (from .args .looks) (from .args .memory .now) (from .args .used) M
-      → Known x (holds d (reducedBasis width B) M) (isAlternating (form E) B)
-  known x is E M sp ca = subst (λ y. Known y (holds d (reducedBasis width B) M) (isAlternating (form E) B)) is (c .ask .ensures .3 E M (sp .0) (ca .0))
+      → Known x (holds d (entryBasis width B) M) (isAlternating (form E) B)
+  known x is E M sp ca = subst (λ y. Known y (holds d (entryBasis width B) M) (isAlternating (form E) B)) is (c .ask .ensures .3 E M (sp .0) (ca .0))
 
   -- its reduced basis
-  size : length (reducedBasis width B) ≡ d
+  size : length (entryBasis width B) ≡ d
   size = reduced-size width B ∙ length-take-le d (rowsIn (from .args .basis .now)) (omega (arith, levels-least d, from .pre .1 .2))
 
-  fits : All (λ v. v < 2 ^ width) B → Fits (reducedBasis width B)
+  fits : All (λ v. v < 2 ^ width) B → Fits (entryBasis width B)
   fits small = (omega (arith, size, from .pre .1 .1), reduced-within width B width small)
 
   -- the space as it is then
@@ -104,7 +104,7 @@ try-space-returns-2 t c =
     let ws = s .args .memory .now in
     let o = c .before .before .note in
     let told : at .ask .result ≡ Alternating = search (needs, c .before .before .before .before .before .enum-told2 .given) in
-    let rs = reducedBasis width (B t at) in
+    let rs = entryBasis width (B t at) in
     let put = o .ensures .1 ∙ ap (λ l. take (s .args .used) ws ++ entered l (drop (s .args .used) ws)) (at .ask .ensures .2) in (
       s .pre .1 .4,
       noted-grew ws (s .args .used) (s .args .d) rs (o .last .0) (o .result) (s .pre .1 .5) put (o .ensures .0),
@@ -156,7 +156,7 @@ try-space-returns-3 t c =
     let ws = a .last .1 .1 .0 in
     let used = a .result .used in
     let d = s .args .d in
-    let rs = reducedBasis width (B t at) in
+    let rs = entryBasis width (B t at) in
     let fails : a .result .ending ≡ Failed = search (needs, c .before .before .before .before .before .enum-told4 .given) in
     let still = behind-front d d (rowsIn (a .last .0)) (rowsIn (at .ask .last .0)) (omega (arith, in-draws t to)) (omega (arith, in-basis t at)) (a .ensures .2 fails) ∙ at .ask .ensures .2 in
     let put = o .ensures .1 ∙ ap (λ l. take used ws ++ entered l (drop used ws)) still in

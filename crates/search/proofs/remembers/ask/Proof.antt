@@ -13,7 +13,7 @@ use Rattle.blocks.specs.Words.{rowsIn}
 use Rattle.blocks.proofs.Lent.{lent-same, lent-part, words-mono}
 use Rattle.residue.specs.Residue.{form}
 use Rattle.triangular.specs.Spaces.{isAlternating}
-use Rattle.triangular.specs.Memory.{Entry, reducedBasis, holds}
+use Rattle.triangular.specs.Memory.{Entry, entryBasis, holds}
 use Rattle.triangular.proofs.Entries.{reduced-size}
 use Rattle.memory.specs.Entries.{roomIn, heldIn}
 use Rattle.memory.specs.inner.Kept.{Kept}
@@ -39,17 +39,17 @@ module _ (c : tie.After-holds) where
   members = take (from .args .d) (rowsIn (from .args .basis .now))
 
   -- the rows that were lent are the reduced basis
-  lent : rowsIn (take (c .before .before .before .before .start2 .result - c .before .before .before .before .before .before .start .result) (drop (c .before .before .before .before .before .before .start .result) put)) ≡ reducedBasis width members
+  lent : rowsIn (take (c .before .before .before .before .start2 .result - c .before .before .before .before .before .before .start .result) (drop (c .before .before .before .before .before .before .start .result) put)) ≡ entryBasis width members
   lent = lent-part d d (c .before .before .before .before .before .before .start .result) (c .before .before .before .before .start2 .result) put (c .before .before .before .before .before .before .start .ensures) (c .before .before .before .before .start2 .ensures) ∙ c .before .before .before .before .before .before .before .before .before .before .before .before .put-reduced .ensures .2
 
-  size : length (reducedBasis width members) ≡ d
+  size : length (entryBasis width members) ≡ d
   size = reduced-size width members ∙ length-take-le d (rowsIn (from .args .basis .now)) (omega (arith, from .pre .2))
 
-  looked-up : (M : List Entry) → Kept (from .args .memory .now) (from .args .used) M → c .holds .result ≡ holds d (reducedBasis width members) M
+  looked-up : (M : List Entry) → Kept (from .args .memory .now) (from .args .used) M → c .holds .result ≡ holds d (entryBasis width members) M
   looked-up M k =
       let w = take (from .args .used) (from .args .memory .now) in
-      c .holds .ensures ∙ ap (λ rs. heldIn (roomIn w) rs w) lent ∙ kept-held (from .args .memory .now) (from .args .used) M (reducedBasis width members) k
-      ∙ ap (λ n. holds n (reducedBasis width members) M) size
+      c .holds .ensures ∙ ap (λ rs. heldIn (roomIn w) rs w) lent ∙ kept-held (from .args .memory .now) (from .args .used) M (entryBasis width members) k
+      ∙ ap (λ n. holds n (entryBasis width members) M) size
 
   -- the Gram rows that are tested
   gram-same : (E : List ℕ) → gramOf E members ≡ take d (rowsIn (from .args .gram .now)) → gramOf E members ≡ take d (rowsIn (c .before .before .before .before .before .before .before .before .before .before .before .before .put-reduced .last .1 .0))

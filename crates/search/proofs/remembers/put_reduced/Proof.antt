@@ -9,7 +9,7 @@ use lib.Seq.{length-take-le}
 use Rattle.binar.specs.Rows.{width}
 use Rattle.blocks.specs.Words.{rowsIn}
 use Rattle.blocks.proofs.Lent.{lent-same, lent-rest, lent-back}
-use Rattle.triangular.specs.Memory.{reducedBasis}
+use Rattle.triangular.specs.Memory.{entryBasis}
 use Rattle.search.proofs.LentLevels.{back-front, back-rest}
 use Rattle.search.proofs.Reduces.{reduced-front}
 use borrow.Author.Needs.{needs}
@@ -89,7 +89,7 @@ returns c =
           ∙ reduced-front d _ _ (take d (replicate width 0)) _ (length-take-le d (replicate width 0) (omega (arith, length-replicate {A = ℕ} width 0, s .pre .0)))
           (subst (λ l. d ≤ length l) (sym rest-b) (omega (arith, length-drop d A, whole-b)))
           (subst (λ l. d ≤ length l) (sym rest-g) (omega (arith, length-drop d G, s .pre .2))) (o .ensures .1 .0)
-          ∙ ap (reducedBasis width) (ap (take d) rest-b ∙ again .ensures .1),
+          ∙ ap (entryBasis width) (ap (take d) rest-b ∙ again .ensures .1),
     )
 
 pub put-reduced-spec : {M : Type 1} → statement M
