@@ -1,49 +1,19 @@
 //! The proved calls, by C's conventions.
+#[allow(dead_code)]
+#[path = "../examples/turnlist.rs"]
+mod turnlist;
+use turnlist::{
+    turnlist_fixed_space, turnlist_gates, turnlist_greedy, turnlist_minimal, turnlist_minimal_remembering, turnlist_rebuild,
+    turnlist_shorter,
+};
 
 #[link(name = "cabi", kind = "static")]
-extern "C" {
-    fn turnlist_minimal(
-        n: u64,
-        rows: *const u64,
-        row_count: usize,
-        budget: u64,
-        out: *mut u64,
-        out_len: usize,
-        count: *mut u64,
-        looks: *mut u64,
-    ) -> u64;
-    fn turnlist_minimal_remembering(
-        n: u64,
-        rows: *const u64,
-        row_count: usize,
-        budget: u64,
-        memory: *mut u64,
-        memory_len: usize,
-        out: *mut u64,
-        out_len: usize,
-        count: *mut u64,
-        looks: *mut u64,
-    ) -> u64;
-    fn turnlist_greedy(n: u64, rows: *const u64, row_count: usize, out: *mut u64, out_len: usize, count: *mut u64) -> u64;
-    fn turnlist_fixed_space(n: u64, rows: *const u64, row_count: usize, out: *mut u64, out_len: usize, count: *mut u64) -> u64;
-    fn turnlist_rebuild(n: u64, vectors: *const u64, vector_count: usize, out: *mut u64, out_len: usize, count: *mut u64) -> u64;
-    fn turnlist_shorter(
-        n: u64,
-        rows: *const u64,
-        row_count: usize,
-        first: *const u64,
-        first_len: usize,
-        second: *const u64,
-        second_len: usize,
-        chosen: *mut u64,
-    ) -> u64;
-    fn turnlist_gates(n: u64, gates: *const u8, byte_count: usize, out: *mut u64, out_len: usize, count: *mut u64) -> u64;
-}
+extern "C" {}
 
 /// Words enough for either list, for a fixed space and for an action.
 pub const ROOM: usize = 130;
 /// Words of a memory that hold one dead end.
-pub const ENTRY: usize = 65;
+pub const ENTRY: usize = turnlist::ENTRY_WORDS;
 
 /// The refusal, how many vectors were listed, and the looks.
 pub fn minimal(n: usize, rows: &[u64], budget: u64, out: &mut [u64; ROOM]) -> (u64, usize, u64) {

@@ -186,8 +186,9 @@ fn written(reply: u64, out: &[u64], count: u64) -> Result<Vec<u64>, Refusal> {
     Ok(out[..count as usize].to_vec())
 }
 
+// The functions themselves, as include/turnlist.h declares them and says what a caller owes.
 extern "C" {
-    fn turnlist_minimal(
+    pub fn turnlist_minimal(
         n: u64,
         rows: *const u64,
         row_count: usize,
@@ -197,7 +198,7 @@ extern "C" {
         count: *mut u64,
         looks: *mut u64,
     ) -> u64;
-    fn turnlist_minimal_remembering(
+    pub fn turnlist_minimal_remembering(
         n: u64,
         rows: *const u64,
         row_count: usize,
@@ -209,10 +210,10 @@ extern "C" {
         count: *mut u64,
         looks: *mut u64,
     ) -> u64;
-    fn turnlist_greedy(n: u64, rows: *const u64, row_count: usize, out: *mut u64, out_len: usize, count: *mut u64) -> u64;
-    fn turnlist_fixed_space(n: u64, rows: *const u64, row_count: usize, out: *mut u64, out_len: usize, count: *mut u64) -> u64;
-    fn turnlist_rebuild(n: u64, vectors: *const u64, vector_count: usize, out: *mut u64, out_len: usize, count: *mut u64) -> u64;
-    fn turnlist_shorter(
+    pub fn turnlist_greedy(n: u64, rows: *const u64, row_count: usize, out: *mut u64, out_len: usize, count: *mut u64) -> u64;
+    pub fn turnlist_fixed_space(n: u64, rows: *const u64, row_count: usize, out: *mut u64, out_len: usize, count: *mut u64) -> u64;
+    pub fn turnlist_rebuild(n: u64, vectors: *const u64, vector_count: usize, out: *mut u64, out_len: usize, count: *mut u64) -> u64;
+    pub fn turnlist_shorter(
         n: u64,
         rows: *const u64,
         row_count: usize,
@@ -222,5 +223,5 @@ extern "C" {
         second_len: usize,
         chosen: *mut u64,
     ) -> u64;
-    fn turnlist_gates(n: u64, gates: *const u8, byte_count: usize, out: *mut u64, out_len: usize, count: *mut u64) -> u64;
+    pub fn turnlist_gates(n: u64, gates: *const u8, byte_count: usize, out: *mut u64, out_len: usize, count: *mut u64) -> u64;
 }

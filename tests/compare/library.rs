@@ -1,72 +1,13 @@
 //! The seven functions of the library behind one safe call. Every lent buffer stands between guard words of a known pattern.
 use std::ops::Range;
 
-extern "C" {
-    fn turnlist_minimal(
-        n: u64,
-        rows: *const u64,
-        row_count: usize,
-        budget: u64,
-        out: *mut u64,
-        out_len: usize,
-        count: *mut u64,
-        looks: *mut u64,
-    ) -> u64;
-    fn turnlist_minimal_remembering(
-        n: u64,
-        rows: *const u64,
-        row_count: usize,
-        budget: u64,
-        memory: *mut u64,
-        memory_len: usize,
-        out: *mut u64,
-        out_len: usize,
-        count: *mut u64,
-        looks: *mut u64,
-    ) -> u64;
-    fn turnlist_greedy(
-        n: u64,
-        rows: *const u64,
-        row_count: usize,
-        out: *mut u64,
-        out_len: usize,
-        count: *mut u64,
-    ) -> u64;
-    fn turnlist_fixed_space(
-        n: u64,
-        rows: *const u64,
-        row_count: usize,
-        out: *mut u64,
-        out_len: usize,
-        count: *mut u64,
-    ) -> u64;
-    fn turnlist_rebuild(
-        n: u64,
-        vectors: *const u64,
-        vector_count: usize,
-        out: *mut u64,
-        out_len: usize,
-        count: *mut u64,
-    ) -> u64;
-    fn turnlist_shorter(
-        n: u64,
-        rows: *const u64,
-        row_count: usize,
-        first: *const u64,
-        first_len: usize,
-        second: *const u64,
-        second_len: usize,
-        chosen: *mut u64,
-    ) -> u64;
-    fn turnlist_gates(
-        n: u64,
-        gates: *const u8,
-        byte_count: usize,
-        out: *mut u64,
-        out_len: usize,
-        count: *mut u64,
-    ) -> u64;
-}
+#[allow(dead_code)]
+#[path = "../../examples/turnlist.rs"]
+mod turnlist;
+use turnlist::{
+    turnlist_fixed_space, turnlist_gates, turnlist_greedy, turnlist_minimal, turnlist_minimal_remembering, turnlist_rebuild,
+    turnlist_shorter,
+};
 
 #[derive(Clone, Copy, Debug, PartialEq)]
 pub enum Call {
