@@ -2,14 +2,13 @@
 -- Assumes nothing.
 mod Claims
 mod Drawn
+mod Parts
 mod Spaces
 mod Places
 mod Turns
 use mathlib.Core.Path.{_∙_}
-use Prim.Native.Nat.{ℕ, _+_}
-use native.Mathlib.Omega.{arith}
+use Prim.Native.Nat.{ℕ}
 use borrow.Author.Needs.{needs}
-use Rattle.blocks.proofs.Lent.{lent-within}
 use Rattle.search.proofs.try_draw.Reads as try-draw
 use Rattle.search.proofs.+try_draw+try_draws+try_space.Lts-try_draw as try-draw-lts
 use Rattle.search.proofs.try_draws.Reads as try-draws
@@ -19,118 +18,11 @@ use Rattle.search.proofs.+try_draw+try_draws+try_space.Lts-try_space as
 use Rattle.search.proofs.+try_draw+try_draws+try_space.{statement}
 use Rattle.search.proofs.+try_draw+try_draws+try_space.Tie.{close}
 use Rattle.search.proofs.+try_draw+try_draws+try_space.Proof.Claims.{μ-try-draw, μ-try-draws, μ-try-space, try-draw-at, try-draws-at, try-space-at, draw-claims, draws-claims, space-claims, try-draws-Inv-loop, try-draws-μ-loop}
-use Rattle.search.proofs.+try_draw+try_draws+try_space.Proof.Drawn.{starts-b, try-draw-returns, try-draw-pass-gram-requires, try-draw-pass-members-requires, try-draw-pass-members-requires-2, try-draw-try-space-requires, try-draw-returns-2, try-draw-is-alternating-requires, try-draw-returns-3, try-draw-try-draws-requires, try-draw-returns-4}
-use Rattle.search.proofs.+try_draw+try_draws+try_space.Proof.Spaces.{try-space-ask-requires, try-space-returns, try-space-note-requires, try-space-returns-2, try-space-try-draws-requires, try-space-note-requires-2, try-space-returns-3, try-space-returns-4}
+use Rattle.search.proofs.+try_draw+try_draws+try_space.Proof.Drawn.{try-draw-returns, try-draw-pass-gram-requires, try-draw-pass-members-requires, try-draw-pass-members-requires-2, try-draw-try-space-requires, try-draw-returns-2, try-draw-is-alternating-requires, try-draw-returns-3, try-draw-try-draws-requires, try-draw-returns-4}
+use Rattle.search.proofs.+try_draw+try_draws+try_space.Proof.Parts.{try-draw-lowest-requires, try-draw-add-start, try-draw-start-requires, try-draw-add-start-2, try-draw-start-requires-2, try-draw-mul-try-space, try-draw-sub-try-space, try-draw-part-try-space-start, try-draw-part-try-space-end, try-draw-mul-try-space-2, try-draw-sub-try-space-2, try-draw-part-try-space-start-2, try-draw-part-try-space-end-2, try-draw-sub-try-space-3, try-draw-same-length, try-draw-same-length-2, try-draw-same-length-3, try-draw-mul-is-alternating, try-draw-sub-is-alternating, try-draw-part-is-alternating-start, try-draw-part-is-alternating-end, try-draw-sub-is-alternating-2, try-draw-same-length-4, try-draw-same-length-5, try-draw-mul-try-draws, try-draw-sub-try-draws, try-draw-part-try-draws-start, try-draw-part-try-draws-end, try-draw-mul-try-draws-2, try-draw-sub-try-draws-2, try-draw-part-try-draws-start-2, try-draw-part-try-draws-end-2, try-draw-sub-try-draws-3, try-draw-same-length-6, try-draw-same-length-7, try-draw-same-length-8}
+use Rattle.search.proofs.+try_draw+try_draws+try_space.Proof.Spaces.{try-space-ask-requires, try-space-returns, try-space-note-requires, try-space-returns-2, try-space-try-draws-requires, try-space-note-requires-2, try-space-returns-3, try-space-returns-4, try-space-enum-told, try-space-same-length, try-space-same-length-2, try-space-same-length-3, try-space-enum-told-2, try-space-same-length-4, try-space-same-length-5, try-space-same-length-6, try-space-enum-told-3, try-space-enum-told-4, try-space-same-length-7, try-space-same-length-8, try-space-same-length-9, try-space-same-length-10, try-space-same-length-11, try-space-same-length-12}
 use Rattle.search.proofs.+try_draw+try_draws+try_space.Proof.Places.{summed-long, try-draws-sums-requires, try-draws-loop-holds, try-draws-returns-4, try-draws-returns, try-draws-add-row}
 use Rattle.search.proofs.+try_draw+try_draws+try_space.Proof.Turns.{try-draws-try-draw-requires, try-draws-loop-again, try-draws-returns-2, try-draws-returns-3, try-draws-loop-again-2, try-draws-loop-less, try-draws-loop-less-2}
-
-try-draw-lowest-requires : (t : ℕ) → try-draw-lts.Need-lowest-requires (draw-claims t) (try-draw-at t) try-draw.Post
-try-draw-lowest-requires t c κs = tt
-
-try-draw-add-start : (t : ℕ) → try-draw-lts.Need-add-start (draw-claims t) (try-draw-at t) try-draw.Post
-try-draw-add-start t c = omega (arith, c .before .before .before .before .before .before .before .before .before .before .pre .1 .1)
-
-try-draw-start-requires : (t : ℕ) → try-draw-lts.Need-start-requires (draw-claims t) (try-draw-at t) try-draw.Post
-try-draw-start-requires t c κs = tt
-
-try-draw-add-start-2 : (t : ℕ) → try-draw-lts.Need-add-start-2 (draw-claims t) (try-draw-at t) try-draw.Post
-try-draw-add-start-2 t c = omega (arith, c .before .before .before .before .before .before .before .before .before .before .before .before .pre .1 .1)
-
-try-draw-start-requires-2 : (t : ℕ) → try-draw-lts.Need-start-requires-2 (draw-claims t) (try-draw-at t) try-draw.Post
-try-draw-start-requires-2 t c κs = tt
-
-try-draw-mul-try-space : (t : ℕ) → try-draw-lts.Need-mul-try-space (draw-claims t) (try-draw-at t) try-draw.Post
-try-draw-mul-try-space t c = search needs
-
-try-draw-sub-try-space : (t : ℕ) → try-draw-lts.Need-sub-try-space (draw-claims t) (try-draw-at t) try-draw.Post
-try-draw-sub-try-space t c = starts-b t (c .before .before .before .before .before) (c .before .before .pass-members .last .0) (c .before .before .pass-members .kept .0) (c .before .before .pass-members .ensures)
-
-try-draw-part-try-space-start : (t : ℕ) → try-draw-lts.Need-part-try-space-start (draw-claims t) (try-draw-at t) try-draw.Post
-try-draw-part-try-space-start t c = starts-b t (c .before .before .before .before .before) (c .before .before .pass-members .last .0) (c .before .before .pass-members .kept .0) (c .before .before .pass-members .ensures)
-
-try-draw-part-try-space-end : (t : ℕ) → try-draw-lts.Need-part-try-space-end (draw-claims t) (try-draw-at t) try-draw.Post
-try-draw-part-try-space-end t c = search needs
-
-try-draw-mul-try-space-2 : (t : ℕ) → try-draw-lts.Need-mul-try-space-2 (draw-claims t) (try-draw-at t) try-draw.Post
-try-draw-mul-try-space-2 t c = search needs
-
-try-draw-sub-try-space-2 : (t : ℕ) → try-draw-lts.Need-sub-try-space-2 (draw-claims t) (try-draw-at t) try-draw.Post
-try-draw-sub-try-space-2 t c = lent-within (c .before .before .before .before .before .before .before .before .before .before .before .before .before .before .before .before .before .before .before .args .d + c .before .before .before .before .before .before .before .before .before .before .before .before .before .before .before .before .before .before .before .args .d) (c .before .before .before .before .before .before .before .before .start .result) (c .before .before .before .before .before .before .before .before .before .before .before .before .pass-gram .last .0) (c .before .before .before .before .before .before .before .before .start .ensures)
-
-try-draw-part-try-space-start-2 : (t : ℕ) → try-draw-lts.Need-part-try-space-start-2 (draw-claims t) (try-draw-at t) try-draw.Post
-try-draw-part-try-space-start-2 t c = lent-within (c .before .before .before .before .before .before .before .before .before .before .before .before .before .before .before .before .before .before .before .args .d + c .before .before .before .before .before .before .before .before .before .before .before .before .before .before .before .before .before .before .before .args .d) (c .before .before .before .before .before .before .before .before .start .result) (c .before .before .before .before .before .before .before .before .before .before .before .before .pass-gram .last .0) (c .before .before .before .before .before .before .before .before .start .ensures)
-
-try-draw-part-try-space-end-2 : (t : ℕ) → try-draw-lts.Need-part-try-space-end-2 (draw-claims t) (try-draw-at t) try-draw.Post
-try-draw-part-try-space-end-2 t c = search needs
-
-try-draw-sub-try-space-3 : (t : ℕ) → try-draw-lts.Need-sub-try-space-3 (draw-claims t) (try-draw-at t) try-draw.Post
-try-draw-sub-try-space-3 t c = c .before .before .before .before .before .before .before .before .before .before .before .before .before .before .before .before .before .before .before .before .before .pre .1 .0
-
-try-draw-same-length : (t : ℕ) → try-draw-lts.Need-same-length (draw-claims t) (try-draw-at t) try-draw.Post
-try-draw-same-length t c = search needs
-
-try-draw-same-length-2 : (t : ℕ) → try-draw-lts.Need-same-length-2 (draw-claims t) (try-draw-at t) try-draw.Post
-try-draw-same-length-2 t c = search needs
-
-try-draw-same-length-3 : (t : ℕ) → try-draw-lts.Need-same-length-3 (draw-claims t) (try-draw-at t) try-draw.Post
-try-draw-same-length-3 t c = search needs
-
-try-draw-mul-is-alternating : (t : ℕ) → try-draw-lts.Need-mul-is-alternating (draw-claims t) (try-draw-at t) try-draw.Post
-try-draw-mul-is-alternating t c = search needs
-
-try-draw-sub-is-alternating : (t : ℕ) → try-draw-lts.Need-sub-is-alternating (draw-claims t) (try-draw-at t) try-draw.Post
-try-draw-sub-is-alternating t c = lent-within (c .before .before .before .before .before .before .before .before .before .before .before .before .before .before .args .d + c .before .before .before .before .before .before .before .before .before .before .before .before .before .before .args .d) (c .before .before .before .start .result) (c .before .before .before .before .before .before .before .pass-gram .last .0) (c .before .before .before .start .ensures)
-
-try-draw-part-is-alternating-start : (t : ℕ) → try-draw-lts.Need-part-is-alternating-start (draw-claims t) (try-draw-at t) try-draw.Post
-try-draw-part-is-alternating-start t c = lent-within (c .before .before .before .before .before .before .before .before .before .before .before .before .before .before .before .args .d + c .before .before .before .before .before .before .before .before .before .before .before .before .before .before .before .args .d) (c .before .before .before .before .start .result) (c .before .before .before .before .before .before .before .before .pass-gram .last .0) (c .before .before .before .before .start .ensures)
-
-try-draw-part-is-alternating-end : (t : ℕ) → try-draw-lts.Need-part-is-alternating-end (draw-claims t) (try-draw-at t) try-draw.Post
-try-draw-part-is-alternating-end t c = search needs
-
-try-draw-sub-is-alternating-2 : (t : ℕ) → try-draw-lts.Need-sub-is-alternating-2 (draw-claims t) (try-draw-at t) try-draw.Post
-try-draw-sub-is-alternating-2 t c = c .before .before .before .before .before .before .before .before .before .before .before .before .before .before .before .before .pre .1 .0
-
-try-draw-same-length-4 : (t : ℕ) → try-draw-lts.Need-same-length-4 (draw-claims t) (try-draw-at t) try-draw.Post
-try-draw-same-length-4 t c = search needs
-
-try-draw-same-length-5 : (t : ℕ) → try-draw-lts.Need-same-length-5 (draw-claims t) (try-draw-at t) try-draw.Post
-try-draw-same-length-5 t c = search needs
-
-try-draw-mul-try-draws : (t : ℕ) → try-draw-lts.Need-mul-try-draws (draw-claims t) (try-draw-at t) try-draw.Post
-try-draw-mul-try-draws t c = search needs
-
-try-draw-sub-try-draws : (t : ℕ) → try-draw-lts.Need-sub-try-draws (draw-claims t) (try-draw-at t) try-draw.Post
-try-draw-sub-try-draws t c = starts-b t (c .before .before .before .before .before .before .before .before .before) (c .before .before .pass-members2 .last .0) (c .before .before .pass-members2 .kept .0) (c .before .before .pass-members2 .ensures)
-
-try-draw-part-try-draws-start : (t : ℕ) → try-draw-lts.Need-part-try-draws-start (draw-claims t) (try-draw-at t) try-draw.Post
-try-draw-part-try-draws-start t c = starts-b t (c .before .before .before .before .before .before .before .before .before) (c .before .before .pass-members2 .last .0) (c .before .before .pass-members2 .kept .0) (c .before .before .pass-members2 .ensures)
-
-try-draw-part-try-draws-end : (t : ℕ) → try-draw-lts.Need-part-try-draws-end (draw-claims t) (try-draw-at t) try-draw.Post
-try-draw-part-try-draws-end t c = search needs
-
-try-draw-mul-try-draws-2 : (t : ℕ) → try-draw-lts.Need-mul-try-draws-2 (draw-claims t) (try-draw-at t) try-draw.Post
-try-draw-mul-try-draws-2 t c = search needs
-
-try-draw-sub-try-draws-2 : (t : ℕ) → try-draw-lts.Need-sub-try-draws-2 (draw-claims t) (try-draw-at t) try-draw.Post
-try-draw-sub-try-draws-2 t c = lent-within (c .before .before .before .before .before .before .before .before .before .before .before .before .before .before .before .before .before .before .before .before .before .before .before .args .d + c .before .before .before .before .before .before .before .before .before .before .before .before .before .before .before .before .before .before .before .before .before .before .before .args .d) (c .before .before .before .before .before .before .before .before .before .before .before .before .start .result) (c .before .before .before .before .before .before .before .before .before .before .before .before .before .before .before .before .pass-gram .last .0) (c .before .before .before .before .before .before .before .before .before .before .before .before .start .ensures)
-
-try-draw-part-try-draws-start-2 : (t : ℕ) → try-draw-lts.Need-part-try-draws-start-2 (draw-claims t) (try-draw-at t) try-draw.Post
-try-draw-part-try-draws-start-2 t c = lent-within (c .before .before .before .before .before .before .before .before .before .before .before .before .before .before .before .before .before .before .before .before .before .before .before .args .d + c .before .before .before .before .before .before .before .before .before .before .before .before .before .before .before .before .before .before .before .before .before .before .before .args .d) (c .before .before .before .before .before .before .before .before .before .before .before .before .start .result) (c .before .before .before .before .before .before .before .before .before .before .before .before .before .before .before .before .pass-gram .last .0) (c .before .before .before .before .before .before .before .before .before .before .before .before .start .ensures)
-
-try-draw-part-try-draws-end-2 : (t : ℕ) → try-draw-lts.Need-part-try-draws-end-2 (draw-claims t) (try-draw-at t) try-draw.Post
-try-draw-part-try-draws-end-2 t c = search needs
-
-try-draw-sub-try-draws-3 : (t : ℕ) → try-draw-lts.Need-sub-try-draws-3 (draw-claims t) (try-draw-at t) try-draw.Post
-try-draw-sub-try-draws-3 t c = c .before .before .before .before .before .before .before .before .before .before .before .before .before .before .before .before .before .before .before .before .before .before .before .before .before .pre .1 .0
-
-try-draw-same-length-6 : (t : ℕ) → try-draw-lts.Need-same-length-6 (draw-claims t) (try-draw-at t) try-draw.Post
-try-draw-same-length-6 t c = search needs
-
-try-draw-same-length-7 : (t : ℕ) → try-draw-lts.Need-same-length-7 (draw-claims t) (try-draw-at t) try-draw.Post
-try-draw-same-length-7 t c = search needs
-
-try-draw-same-length-8 : (t : ℕ) → try-draw-lts.Need-same-length-8 (draw-claims t) (try-draw-at t) try-draw.Post
-try-draw-same-length-8 t c = search needs
 
 try-draws-low-ones-requires : (t : ℕ) → try-draws-lts.Need-low-ones-requires (draws-claims t) (try-draws-at t) try-draws.Post try-draws-Inv-loop try-draws-μ-loop
 try-draws-low-ones-requires t c κs = tt
@@ -206,54 +98,6 @@ try-draws-same-length-11 t c = c .before .before .loop .inv .3 ∙ summed-long t
 
 try-draws-same-length-12 : (t : ℕ) → try-draws-lts.Need-same-length-12 (draws-claims t) (try-draws-at t) try-draws.Post try-draws-Inv-loop try-draws-μ-loop
 try-draws-same-length-12 t c = c .before .before .loop .inv .4
-
-try-space-enum-told : (t : ℕ) → try-space-lts.Need-enum-told (space-claims t) (try-space-at t) try-space.Post
-try-space-enum-told t c = search needs
-
-try-space-same-length : (t : ℕ) → try-space-lts.Need-same-length (space-claims t) (try-space-at t) try-space.Post
-try-space-same-length t c = c .before .before .before .before .before .before .ask .kept .0
-
-try-space-same-length-2 : (t : ℕ) → try-space-lts.Need-same-length-2 (space-claims t) (try-space-at t) try-space.Post
-try-space-same-length-2 t c = c .before .before .before .before .before .before .ask .kept .1 .0
-
-try-space-same-length-3 : (t : ℕ) → try-space-lts.Need-same-length-3 (space-claims t) (try-space-at t) try-space.Post
-try-space-same-length-3 t c = search needs
-
-try-space-enum-told-2 : (t : ℕ) → try-space-lts.Need-enum-told-2 (space-claims t) (try-space-at t) try-space.Post
-try-space-enum-told-2 t c = search needs
-
-try-space-same-length-4 : (t : ℕ) → try-space-lts.Need-same-length-4 (space-claims t) (try-space-at t) try-space.Post
-try-space-same-length-4 t c = c .before .before .before .before .before .before .before .before .before .before .before .ask .kept .0
-
-try-space-same-length-5 : (t : ℕ) → try-space-lts.Need-same-length-5 (space-claims t) (try-space-at t) try-space.Post
-try-space-same-length-5 t c = c .before .before .before .before .before .before .before .before .before .before .before .ask .kept .1 .0
-
-try-space-same-length-6 : (t : ℕ) → try-space-lts.Need-same-length-6 (space-claims t) (try-space-at t) try-space.Post
-try-space-same-length-6 t c = c .before .before .note .kept .0
-
-try-space-enum-told-3 : (t : ℕ) → try-space-lts.Need-enum-told-3 (space-claims t) (try-space-at t) try-space.Post
-try-space-enum-told-3 t c = search needs
-
-try-space-enum-told-4 : (t : ℕ) → try-space-lts.Need-enum-told-4 (space-claims t) (try-space-at t) try-space.Post
-try-space-enum-told-4 t c = search needs
-
-try-space-same-length-7 : (t : ℕ) → try-space-lts.Need-same-length-7 (space-claims t) (try-space-at t) try-space.Post
-try-space-same-length-7 t c = c .before .before .before .before .before .before .before .before .before .before .before .before .before .try-draws .kept .0 ∙ c .before .before .before .before .before .before .before .before .before .before .before .before .before .before .before .before .before .before .before .before .before .before .before .ask .kept .0
-
-try-space-same-length-8 : (t : ℕ) → try-space-lts.Need-same-length-8 (space-claims t) (try-space-at t) try-space.Post
-try-space-same-length-8 t c = c .before .before .before .before .before .before .before .before .before .before .before .before .before .try-draws .kept .1 .0 ∙ c .before .before .before .before .before .before .before .before .before .before .before .before .before .before .before .before .before .before .before .before .before .before .before .ask .kept .1 .0
-
-try-space-same-length-9 : (t : ℕ) → try-space-lts.Need-same-length-9 (space-claims t) (try-space-at t) try-space.Post
-try-space-same-length-9 t c = c .before .before .note2 .kept .0 ∙ c .before .before .before .before .before .before .before .before .before .before .before .before .before .try-draws .kept .1 .1 .0
-
-try-space-same-length-10 : (t : ℕ) → try-space-lts.Need-same-length-10 (space-claims t) (try-space-at t) try-space.Post
-try-space-same-length-10 t c = c .before .before .before .before .before .before .before .try-draws .kept .0 ∙ c .before .before .before .before .before .before .before .before .before .before .before .before .before .before .before .before .before .ask .kept .0
-
-try-space-same-length-11 : (t : ℕ) → try-space-lts.Need-same-length-11 (space-claims t) (try-space-at t) try-space.Post
-try-space-same-length-11 t c = c .before .before .before .before .before .before .before .try-draws .kept .1 .0 ∙ c .before .before .before .before .before .before .before .before .before .before .before .before .before .before .before .before .before .ask .kept .1 .0
-
-try-space-same-length-12 : (t : ℕ) → try-space-lts.Need-same-length-12 (space-claims t) (try-space-at t) try-space.Post
-try-space-same-length-12 t c = c .before .before .before .before .before .before .before .try-draws .kept .1 .1 .0
 
 pub +try-draw+try-draws+try-space-spec : {M : Type 1} → statement M
 +try-draw+try-draws+try-space-spec = close μ-try-draw μ-try-draws μ-try-space (λ t. try-draw-lts.spec (draw-claims t)

@@ -186,3 +186,53 @@ try-space-returns-4 t c =
           kept-reports (form E) (roomIn (s .args .memory .now)) (s .args .budget) (s .args .looks) (B t at) M (ca .1) (s .pre .1 .4) (s .args .d) (s .pre .1 .0) (k .0) (k .1)
           (a .result .ending) (a .result .looks) (foundIn (s .args .d) (rowsIn (a .last .0))) (a .last .1 .1 .0) (a .result .used) (came t to E M sp ca) (not-failed (a .result .ending) (c .match2 .keys2)),
     )
+
+-- ---- what is small
+
+pub try-space-enum-told : (t : ℕ) → try-space-lts.Need-enum-told (space-claims t) (try-space-at t) try-space.Post
+try-space-enum-told t c = search needs
+
+pub try-space-same-length : (t : ℕ) → try-space-lts.Need-same-length (space-claims t) (try-space-at t) try-space.Post
+try-space-same-length t c = c .before .before .before .before .before .before .ask .kept .0
+
+pub try-space-same-length-2 : (t : ℕ) → try-space-lts.Need-same-length-2 (space-claims t) (try-space-at t) try-space.Post
+try-space-same-length-2 t c = c .before .before .before .before .before .before .ask .kept .1 .0
+
+pub try-space-same-length-3 : (t : ℕ) → try-space-lts.Need-same-length-3 (space-claims t) (try-space-at t) try-space.Post
+try-space-same-length-3 t c = search needs
+
+pub try-space-enum-told-2 : (t : ℕ) → try-space-lts.Need-enum-told-2 (space-claims t) (try-space-at t) try-space.Post
+try-space-enum-told-2 t c = search needs
+
+pub try-space-same-length-4 : (t : ℕ) → try-space-lts.Need-same-length-4 (space-claims t) (try-space-at t) try-space.Post
+try-space-same-length-4 t c = c .before .before .before .before .before .before .before .before .before .before .before .ask .kept .0
+
+pub try-space-same-length-5 : (t : ℕ) → try-space-lts.Need-same-length-5 (space-claims t) (try-space-at t) try-space.Post
+try-space-same-length-5 t c = c .before .before .before .before .before .before .before .before .before .before .before .ask .kept .1 .0
+
+pub try-space-same-length-6 : (t : ℕ) → try-space-lts.Need-same-length-6 (space-claims t) (try-space-at t) try-space.Post
+try-space-same-length-6 t c = c .before .before .note .kept .0
+
+pub try-space-enum-told-3 : (t : ℕ) → try-space-lts.Need-enum-told-3 (space-claims t) (try-space-at t) try-space.Post
+try-space-enum-told-3 t c = search needs
+
+pub try-space-enum-told-4 : (t : ℕ) → try-space-lts.Need-enum-told-4 (space-claims t) (try-space-at t) try-space.Post
+try-space-enum-told-4 t c = search needs
+
+pub try-space-same-length-7 : (t : ℕ) → try-space-lts.Need-same-length-7 (space-claims t) (try-space-at t) try-space.Post
+try-space-same-length-7 t c = c .before .before .before .before .before .before .before .before .before .before .before .before .before .try-draws .kept .0 ∙ c .before .before .before .before .before .before .before .before .before .before .before .before .before .before .before .before .before .before .before .before .before .before .before .ask .kept .0
+
+pub try-space-same-length-8 : (t : ℕ) → try-space-lts.Need-same-length-8 (space-claims t) (try-space-at t) try-space.Post
+try-space-same-length-8 t c = c .before .before .before .before .before .before .before .before .before .before .before .before .before .try-draws .kept .1 .0 ∙ c .before .before .before .before .before .before .before .before .before .before .before .before .before .before .before .before .before .before .before .before .before .before .before .ask .kept .1 .0
+
+pub try-space-same-length-9 : (t : ℕ) → try-space-lts.Need-same-length-9 (space-claims t) (try-space-at t) try-space.Post
+try-space-same-length-9 t c = c .before .before .note2 .kept .0 ∙ c .before .before .before .before .before .before .before .before .before .before .before .before .before .try-draws .kept .1 .1 .0
+
+pub try-space-same-length-10 : (t : ℕ) → try-space-lts.Need-same-length-10 (space-claims t) (try-space-at t) try-space.Post
+try-space-same-length-10 t c = c .before .before .before .before .before .before .before .try-draws .kept .0 ∙ c .before .before .before .before .before .before .before .before .before .before .before .before .before .before .before .before .before .ask .kept .0
+
+pub try-space-same-length-11 : (t : ℕ) → try-space-lts.Need-same-length-11 (space-claims t) (try-space-at t) try-space.Post
+try-space-same-length-11 t c = c .before .before .before .before .before .before .before .try-draws .kept .1 .0 ∙ c .before .before .before .before .before .before .before .before .before .before .before .before .before .before .before .before .before .ask .kept .1 .0
+
+pub try-space-same-length-12 : (t : ℕ) → try-space-lts.Need-same-length-12 (space-claims t) (try-space-at t) try-space.Post
+try-space-same-length-12 t c = c .before .before .before .before .before .before .before .try-draws .kept .1 .1 .0
