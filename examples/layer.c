@@ -22,7 +22,7 @@ static const char *const meanings[] = {
     "the rows are not symplectic",
     "too few output words",
     "the search would look further than the budget",
-    "the bordered candidate did not pass",
+    NULL, /* there is no 7 */
     "a vector with bits from 2n up",
     "no such gate",
     "a qubit that is not there",

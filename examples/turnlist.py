@@ -13,7 +13,7 @@ MEANINGS = (
     "the rows are not symplectic",
     "too few output words",
     "the search would look further than the budget",
-    "the bordered candidate did not pass",
+    None,  # there is no 7
     "a vector with bits from 2n up",
     "no such gate",
     "a qubit that is not there",

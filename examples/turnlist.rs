@@ -32,8 +32,7 @@ pub enum Refusal {
     NotSymplectic,
     OutputTooShort,
     Spent,
-    NotBordered,
-    VectorTooWide,
+    VectorTooWide = 8,
     UnknownGate,
     QubitTooHigh,
     EqualQubits,
@@ -41,14 +40,13 @@ pub enum Refusal {
 }
 
 impl Refusal {
-    const ALL: [Refusal; 12] = [
+    const ALL: [Refusal; 11] = [
         Refusal::TooManyQubits,
         Refusal::WrongRowCount,
         Refusal::RowTooWide,
         Refusal::NotSymplectic,
         Refusal::OutputTooShort,
         Refusal::Spent,
-        Refusal::NotBordered,
         Refusal::VectorTooWide,
         Refusal::UnknownGate,
         Refusal::QubitTooHigh,
@@ -69,7 +67,6 @@ impl Refusal {
             Refusal::NotSymplectic => "the rows are not symplectic",
             Refusal::OutputTooShort => "too few output words",
             Refusal::Spent => "the search would look further than the budget",
-            Refusal::NotBordered => "the bordered candidate did not pass",
             Refusal::VectorTooWide => "a vector with bits from 2n up",
             Refusal::UnknownGate => "no such gate",
             Refusal::QubitTooHigh => "a qubit that is not there",

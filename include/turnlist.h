@@ -14,7 +14,7 @@
  *   - 0: an answer. *count says how many words stand at the start of out, and the words past them are unchanged.
  *     turnlist_shorter lists nothing: *chosen says which of the lent lists is the answer.
  *   - Any other number: a refusal. Nothing is listed, and every lent word is unchanged, *count, *looks and *chosen too;
- *     but a lent memory may change at 6 and 7.
+ *     but a lent memory may change at 6.
  *
  * What the caller owes, and nothing checks:
  *
@@ -47,7 +47,7 @@ extern "C" {
 /* How many words of a lent memory one entry takes. */
 #define TURNLIST_ENTRY_WORDS 65
 
-/* What a call returns. 12 and 13 are refusals of a job file, which no call here takes. */
+/* What a call returns. 12 and 13 are refusals of a job file, which no call here takes. There is no 7. */
 enum turnlist_reply {
     TURNLIST_ANSWERED = 0,
     TURNLIST_TOO_MANY_QUBITS = 1,  /* n is more than 32 */
@@ -56,7 +56,6 @@ enum turnlist_reply {
     TURNLIST_NOT_SYMPLECTIC = 4,   /* the rows do not pair as the basis does */
     TURNLIST_OUTPUT_TOO_SHORT = 5, /* too few output words */
     TURNLIST_SPENT = 6,            /* the search would look further than the budget */
-    TURNLIST_NOT_BORDERED = 7,     /* the bordered candidate does not pass */
     TURNLIST_VECTOR_TOO_WIDE = 8,  /* a vector has a bit from 2n up */
     TURNLIST_UNKNOWN_GATE = 9,     /* a gate number above 5 */
     TURNLIST_QUBIT_TOO_HIGH = 10,  /* a qubit that is not below n */
@@ -78,8 +77,11 @@ enum turnlist_gate {
  *
  * A look is one vector drawn by the search. *looks is how many the search drew, at most the budget.
  *
- * Wants 2n rows and at least 2n + 1 output words. Refuses with 1 to 7. The looks of a refusal are 0, but at 6 they are
- * the budget, and at 7 they were drawn and are not told. */
+ * *count is r or r + 1, where r is the rank of I + F. A symplectic action is refused only for its buffers (5) or its
+ * budget (6).
+ *
+ * Wants 2n rows and at least 2n + 1 output words. Refuses with 1 to 6. The looks of a refusal are 0, but at 6 they are
+ * the budget. */
 uint64_t turnlist_minimal(uint64_t n, const uint64_t *rows, size_t row_count, uint64_t budget,
                           uint64_t *out, size_t out_len, uint64_t *count, uint64_t *looks);
 

@@ -166,8 +166,8 @@ impl Checker {
         for (family, t) in self.tallies.iter().filter(|(_, t)| t.actions > 0) {
             println!("{family:<20}{:>9}{:>14}{:>8}{:>12}", t.actions, t.extra_turn, t.spent, t.most_looks);
         }
-        // 12 and 13 are the job file's
-        let of_calls = self.refusals.iter().enumerate().filter(|(k, _)| ![12, 13].contains(k));
+        // 12 and 13 are the job file's, and there is no 7
+        let of_calls = self.refusals.iter().enumerate().filter(|(k, _)| ![7, 12, 13].contains(k));
         let counts: Vec<String> = of_calls.map(|(k, calls)| format!("{k}: {calls}")).collect();
         println!("\ncalls by answer (0) or refusal: {}", counts.join(", "));
     }

@@ -180,7 +180,8 @@ fn bordered(n: usize, action: &[u64], basis: &[u64], core: &[u64]) -> Option<Vec
     (fits && product(n, &list) == action).then_some(list)
 }
 
-/// The list and the looks, or the refusal, 6 or 7; what failed is in the memory, which is empty before.
+/// The list and the looks, or the refusal, 6; what failed is in the memory, which is empty before. That a bordered candidate passes
+/// its checks is a theorem, and one that does not stops the comparison.
 pub fn minimal_list(n: usize, action: &[u64], budget: u64, memory: &mut Memory) -> Result<(Vec<u64>, u64), u64> {
     let (basis, core) = core_of(n, action);
     let units: Vec<u64> = (0..core.len()).map(|k| 1 << k).collect();
@@ -188,7 +189,7 @@ pub fn minimal_list(n: usize, action: &[u64], budget: u64, memory: &mut Memory) 
     let list = match search.space(&units) {
         Err(Spent) => return Err(6),
         Ok(Some(picks)) => picks.iter().map(|&p| times(p, &basis)).collect(),
-        Ok(None) => bordered(n, action, &basis, &core).ok_or(7u64)?,
+        Ok(None) => bordered(n, action, &basis, &core).expect("a bordered candidate that passes both checks"),
     };
     Ok((list, search.looks))
 }

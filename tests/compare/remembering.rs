@@ -17,7 +17,7 @@ const DEAD_ENDS: [Family; 3] = [Family::Uniform, Family::Permutation, Family::Ex
 /// What a call with a memory did that the same call without one does not allow, by facts alone.
 pub fn flaw(question: &Question, seen: &Seen, plain: &Seen) -> Option<&'static str> {
     let same = Seen { memory: Vec::new(), ..seen.clone() } == *plain && seen.memory == question.memory;
-    let allowed = if plain.number == 6 { &[0, 6, 7][..] } else { &[plain.number] };
+    let allowed = if plain.number == 6 { &[0, 6][..] } else { &[plain.number] };
     if question.memory.len() < ENTRY && !same {
         Some("no room for an entry, and not what the call without a memory did")
     } else if (1..=5).contains(&plain.number) && !same {

@@ -18,7 +18,7 @@ pub fn memories() -> Result<(), String> {
     }
     let changes: [(usize, u64, usize, fn(&mut Seen)); 12] = [
         (6_500, 58, 7, |seen| seen.number = 6),
-        (6_500, 58, 7, |seen| seen.number = 7),
+        (6_500, 50, 7, |seen| seen.number = 7),
         (6_500, 58, 7, |seen| seen.looks = 59),
         (6_500, 58, 7, |seen| seen.count -= 1),
         (6_500, 58, 7, |seen| seen.out[0] ^= 1),

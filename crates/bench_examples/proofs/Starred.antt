@@ -1,7 +1,8 @@
--- The one computed theorem: every starred example of document 01, and those of the fixed space, of the shorter list, of the commutation chart and of a lent memory, as the definitions answer them.
+-- What is computed: every starred example of document 01, and those of the fixed space, of the shorter list, of the commutation chart and of a lent memory, as the definitions answer them.
 -- Assumes nothing.
 use mathlib.Core.Path.{_≡_, refl}
-use mathlib.Core.List.{map, zip, zipWith, flatten}
+use mathlib.Core.Bool.{true, false}
+use mathlib.Core.List.{[], _∷_, map, zip, zipWith, flatten}
 use Rattle.bench_examples.specs.Table.{Example, answer, table, memories}
 use Rattle.binar.specs.Bits.{odd, bit, _⊕_, weight, dot}
 use Rattle.blocks.specs.Matrices.{times, units, dots}
@@ -17,8 +18,8 @@ use Rattle.fixed_space.specs.FixedSpace.{kernel, reducedBasis, fixedSpace, fixe
 use Rattle.triangular.specs.Search.{draws, search, budgeted}
 use Rattle.triangular.specs.Memory.{entryBasis, isSpace, holds, enter, drawsWith, searchWith, knownWithin}
 use Rattle.triangular.specs.Spaces.{complement, symmetricWith, isAlternating}
-use Rattle.bordered.specs.Checks.{unitLower, validate, verifiesBordered, checkedList, borderedList}
-use Rattle.family.specs.Family.{splitAt, withPartner, fromFirst, symplecticSimplex, peeled, borderedFamily}
+use Rattle.family.specs.Family.{splitAt, withPartner, fromFirst, symplecticSimplex, peeled, borderedFamily, vectorsOf}
+use Rattle.family.specs.Checks.{borderedList, unitLower, validate, verifiesBordered, candidatePasses}
 use Rattle.transvection.specs.Greedy.{besideBasis, firstNonzero, nextTransvection, recorded, greedyList, greedyReply}
 use Rattle.transvection_exact.specs.Minimal.{coreSearch, minimalReply, coreSearchWith, rememberingReply, memoryLeft}
 use Rattle.memory.specs.Entries.{entryWords, memoryWords, roomIn}
@@ -30,9 +31,14 @@ use Rattle.lines.specs.Lines.{decimalIn, decimal, touchedFrom, touched, load, s
 use Rattle.printout.specs.Printout.{wordsOfBytes, entryAction, entryLine, entryLines, fileLines, printout}
 
 pub starred : map (λ (e : Example). answer (e .call)) table ≡ map (λ (e : Example). e .expected) table
-unfolding table answer zip zipWith flatten odd bit _⊕_ weight dot times units dots rowsOfWords wordOf wordsOfRows laid firstOne unevenWith firstUneven pick fitAll sizeQuestion countQuestion actionQuestions listQuestions xBits zBits pairing turn followed product pairAlike symplectic identityPlus columns rowReduceWithTransform rank residue reduction basis transform timesTransposed core form kernel reducedBasis fixedSpace fixedReply shorterOf shorterReply partOf draws search budgeted complement symmetricWith isAlternating unitLower validate matches verifiesBordered checkedList borderedList splitAt withPartner fromFirst symplecticSimplex peeled borderedFamily besideBasis firstNonzero nextTransvection recorded greedyList greedyReply coreSearch minimalReply readsTwo gateQuestions sequenceQuestions sequenceTurns gatesReply sheet gate turnVector littleEndian part number qubitCount entryCount entry partSize entryPasses entriesPass fileQuestions letter vector lettersFrom letters spelling decimalIn decimal touchedFrom touched load spelled line fileLine wordsOfBytes entryAction entryLine entryLines fileLines printout
+unfolding table answer zip zipWith flatten odd bit _⊕_ weight dot times units dots rowsOfWords wordOf wordsOfRows laid firstOne unevenWith firstUneven pick fitAll sizeQuestion countQuestion actionQuestions listQuestions xBits zBits pairing turn followed product pairAlike symplectic identityPlus columns rowReduceWithTransform rank residue reduction basis transform timesTransposed core form kernel reducedBasis fixedSpace fixedReply shorterOf shorterReply partOf draws search budgeted complement symmetricWith isAlternating matches borderedList splitAt withPartner fromFirst symplecticSimplex peeled borderedFamily vectorsOf besideBasis firstNonzero nextTransvection recorded greedyList greedyReply coreSearch minimalReply readsTwo gateQuestions sequenceQuestions sequenceTurns gatesReply sheet gate turnVector littleEndian part number qubitCount entryCount entry partSize entryPasses entriesPass fileQuestions letter vector lettersFrom letters spelling decimalIn decimal touchedFrom touched load spelled line fileLine wordsOfBytes entryAction entryLine entryLines fileLines printout
 starred = refl
 
 pub remembered : map (λ (e : Example). answer (e .call)) memories ≡ map (λ (e : Example). e .expected) memories
-unfolding memories answer zip zipWith flatten odd bit _⊕_ weight dot times units dots rowsOfWords wordOf wordsOfRows laid firstOne unevenWith firstUneven pick fitAll sizeQuestion countQuestion actionQuestions listQuestions xBits zBits pairing turn followed product pairAlike symplectic identityPlus columns rowReduceWithTransform rank residue reduction basis transform timesTransposed core form kernel reducedBasis fixedSpace fixedReply shorterOf shorterReply partOf draws search budgeted complement symmetricWith isAlternating unitLower validate matches verifiesBordered checkedList borderedList splitAt withPartner fromFirst symplecticSimplex peeled borderedFamily besideBasis firstNonzero nextTransvection recorded greedyList greedyReply coreSearch minimalReply coreSearchWith rememberingReply memoryLeft entryBasis isSpace holds enter drawsWith searchWith knownWithin entryWords memoryWords roomIn over readsTwo gateQuestions sequenceQuestions sequenceTurns gatesReply sheet gate turnVector littleEndian part number qubitCount entryCount entry partSize entryPasses entriesPass fileQuestions letter vector lettersFrom letters spelling decimalIn decimal touchedFrom touched load spelled line fileLine wordsOfBytes entryAction entryLine entryLines fileLines printout
+unfolding memories answer zip zipWith flatten odd bit _⊕_ weight dot times units dots rowsOfWords wordOf wordsOfRows laid firstOne unevenWith firstUneven pick fitAll sizeQuestion countQuestion actionQuestions listQuestions xBits zBits pairing turn followed product pairAlike symplectic identityPlus columns rowReduceWithTransform rank residue reduction basis transform timesTransposed core form kernel reducedBasis fixedSpace fixedReply shorterOf shorterReply partOf draws search budgeted complement symmetricWith isAlternating matches borderedList splitAt withPartner fromFirst symplecticSimplex peeled borderedFamily vectorsOf besideBasis firstNonzero nextTransvection recorded greedyList greedyReply coreSearch minimalReply coreSearchWith rememberingReply memoryLeft entryBasis isSpace holds enter drawsWith searchWith knownWithin entryWords memoryWords roomIn over readsTwo gateQuestions sequenceQuestions sequenceTurns gatesReply sheet gate turnVector littleEndian part number qubitCount entryCount entry partSize entryPasses entriesPass fileQuestions letter vector lettersFrom letters spelling decimalIn decimal touchedFrom touched load spelled line fileLine wordsOfBytes entryAction entryLine entryLines fileLines printout
 remembered = refl
+
+-- document 01's checks of a bordered candidate: that of a SWAP passes, that of the identity, which has a triangular basis, does not
+pub checked : map (candidatePasses 2) ((2 ∷ 1 ∷ 8 ∷ 4 ∷ []) ∷ (1 ∷ 2 ∷ 4 ∷ 8 ∷ []) ∷ []) ≡ true ∷ false ∷ []
+unfolding candidatePasses unitLower validate verifiesBordered matches fitAll zip odd bit _⊕_ weight dot times units dots xBits zBits pairing turn followed product identityPlus columns rowReduceWithTransform rank residue reduction basis transform timesTransposed core form complement firstOne unevenWith firstUneven pick splitAt withPartner fromFirst symplecticSimplex peeled borderedFamily
+checked = refl

@@ -1,18 +1,17 @@
--- What a row is worth: the blank one, what a row has columns for, what shifts and cuts at or past the width leave of a value below it, and ones past the width.
+-- What a row is worth: the blank one, its bound, what shifts and cuts at or past the width leave of a value below it, and ones past the width.
 -- Assumes nothing.
 use mathlib.Core.Path.{_≡_, refl, sym, ap, _∙_}
 use mathlib.Core.Bool.{true, false}
 use Prim.Native.Nat.{ℕ, _+_, _-_, _*_, _/_, _%_, _^_, _≤_, _<_}
-use native.Mathlib.Nat.{mod-eq-of-lt, div-eq-of-lt, mul-mod-left, mul-assoc, one-mul, lt-of-lt-of-le}
+use native.Mathlib.Nat.{mod-eq-of-lt, div-eq-of-lt, mul-mod-left, mul-assoc, one-mul}
 use native.Mathlib.Omega.{arith}
 use lib.Pow.{pow-mono, pow-add, low, ones-lt, ones-split}
 use lib.Dec.{ltb}
 use borrow.Author.Tests.{lt-ltb}
-use Rattle.binar.specs.Bits.{odd, bit, _⊕_}
+use Rattle.binar.specs.Bits.{odd, bit}
 use Rattle.binar.specs.Rows.{width, rowBound, val, unit}
 use Rattle.binar.specs.inner.Blank.{blank}
 use Rattle.binar.specs.declared.Row.{Row}
-use Rattle.binar.proofs.Sums.{sum-low}
 
 pub val-blank : val blank ≡ 0
 unfolding val
@@ -32,19 +31,6 @@ one-word r h = mod-eq-of-lt h
 pub pow-bound : (k : ℕ) → k ≤ width → 2 ^ k ≤ rowBound
 unfolding rowBound
 pow-bound k h = pow-mono h
-
--- ---- what a row has columns for
-
-pub kept-sum : (a b : ℕ) → (a ⊕ b) % rowBound ≡ a % rowBound ⊕ b % rowBound
-unfolding rowBound
-kept-sum a b = sum-low width a b
-
-pub kept-whole : (k a : ℕ) → k ≤ width → a < 2 ^ k → a % rowBound ≡ a
-kept-whole k a h l = mod-eq-of-lt (lt-of-lt-of-le l (pow-bound k h))
-
-pub unit-kept : (k : ℕ) → unit k ≡ 2 ^ k % rowBound
-unfolding unit
-unit-kept k = refl
 
 -- ---- at and past the width
 

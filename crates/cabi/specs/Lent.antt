@@ -11,8 +11,7 @@ use Rattle.questions.specs.Answers.{lentNumber}
 use Rattle.questions.specs.Replies.{Reply}
 use Rattle.memory.specs.Entries.{entrySize}
 
--- the figures read off a returned number and the lent numbers: a refusal's count is 0, and its looks are 0, at 6 the budget; at 7 the
--- looks drawn are not told, and 0 stands for them
+-- the figures read off a returned number and the lent numbers: a refusal's count is 0, and its looks are 0, at 6 the budget
 unfoldable pub readFigures : ℕ → ℕ → ℕ → ℕ → Figures
 readFigures budget zero count looks = record { number = 0; count = count; looks = looks }
 readFigures budget (suc k) count looks = record { number = suc k; count = 0; looks = cond (eqb (suc k) 6) budget 0 }

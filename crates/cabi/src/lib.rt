@@ -1,5 +1,5 @@
 // The calls by C's conventions: each returns 0, or the number of the first question that is answered no, and then leaves every lent
-// word as it was, but for a lent memory at 6 and 7. include/turnlist.h says the same to C.
+// word as it was, but for a lent memory at 6. include/turnlist.h says the same to C.
 // Not in the source.
 ghost use mathlib.Core.Path.{_≡_};
 ghost use Prim.Native.Nat.{_*_, _≤_};
@@ -13,7 +13,7 @@ ghost use Rattle.fixed_space.specs.Promises.{InPlace, Complete, Reduced, Counte
 ghost use Rattle.transvection.specs.Greedy.{greedyReply};
 ghost use Rattle.memory.specs.Entries.{roomIn};
 ghost use Rattle.transvection_exact.specs.Minimal.{minimalReply, rememberingReply, memoryLeft};
-ghost use Rattle.transvection_exact.specs.Answers.{Shortest, Exact, ExactWith, AsWithout};
+ghost use Rattle.transvection_exact.specs.Answers.{Shortest, Exact, ExactWith, AsWithout, EveryLayer};
 ghost use Rattle.gates.specs.Sequences.{sequenceTurns, gatesReply};
 ghost use Rattle.questions.specs.Answers.{lentNumber};
 ghost use Rattle.cabi.specs.Lent.{readFigures, PlainlyLent};
@@ -35,6 +35,7 @@ pub extern "C" fn turnlist_minimal(
     ensures replays { λ r. ⌜ Replays n (now (rows .entry)) (now (out .exit)) (readFigures budget r (now (count .exit)) (now (looks .exit))) ⌝ }
     ensures shortest { λ r. ⌜ Shortest n (now (rows .entry)) (readFigures budget r (now (count .exit)) (now (looks .exit))) ⌝ }
     ensures exact { λ r. ⌜ Exact n (now (rows .entry)) budget (now (out .entry)) (readFigures budget r (now (count .exit)) (now (looks .exit))) ⌝ }
+    ensures every_layer { λ r. ⌜ EveryLayer n (now (rows .entry)) (readFigures budget r (now (count .exit)) (now (looks .exit))) ⌝ }
 {
     let answer = transvection_exact::clifford_to_transvections_minimal(n, rows, budget, out);
     let least = transvection_exact::figures_of(answer);
@@ -63,6 +64,7 @@ pub extern "C" fn turnlist_minimal_remembering(
     ensures shortest { λ r. ⌜ Shortest n (now (rows .entry)) (readFigures budget r (now (count .exit)) (now (looks .exit))) ⌝ }
     ensures exact { λ r. ⌜ ExactWith (roomIn (now (memory .entry))) n (now (rows .entry)) budget (now (out .entry)) (readFigures budget r (now (count .exit)) (now (looks .exit))) ⌝ }
     ensures as_without { λ r. ⌜ AsWithout (minimalReply n (now (rows .entry)) budget (now (out .entry))) (now (out .exit)) (readFigures budget r (now (count .exit)) (now (looks .exit))) ⌝ }
+    ensures every_layer { λ r. ⌜ EveryLayer n (now (rows .entry)) (readFigures budget r (now (count .exit)) (now (looks .exit))) ⌝ }
     ensures plainly { λ r. ⌜ PlainlyLent (minimalReply n (now (rows .entry)) budget (now (out .entry))) (now (memory .entry)) (now (memory .exit)) (now (out .exit)) r (now (count .entry)) (now (count .exit)) (now (looks .entry)) (now (looks .exit)) ⌝ }
 {
     let answer = transvection_exact::clifford_to_transvections_minimal_remembering(

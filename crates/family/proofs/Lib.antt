@@ -4,5 +4,11 @@ pub mod Drops
 pub mod Others
 pub mod Simplices
 pub mod Peeling
-pub mod Marked
 pub mod Sizes
+pub mod Whole
+pub mod Partners
+pub mod SimplexMade
+pub mod FamilyMade
+pub mod Relations
+pub mod Borders
+pub mod Passes

@@ -1,11 +1,10 @@
--- One turn of the family's loop: a member peeled and another dropped, none dropped, nothing picked; and the family at its end.
+-- One turn of the family's loop: a vector peeled and a member dropped for it, none dropped, nothing picked.
 -- Assumes nothing.
 use mathlib.Core.Path.{_≡_, refl, sym, ap, _∙_, subst}
 use mathlib.Core.Bool.{Bool, true, false, _||_}
-use mathlib.Core.List.{List, [], _∷_, _++_, map, map-append}
+use mathlib.Core.List.{List, [], _∷_, _++_, map, map-map, map-id}
 use mathlib.Core.Option.{Option, none, some}
-use Prim.Native.Nat.{ℕ, zero, suc, _≤_, _<_, zero-le}
-use native.Mathlib.Nat.{not-suc-le-zero}
+use Prim.Native.Nat.{ℕ, zero, suc, _≤_, _<_}
 use native.Mathlib.Omega.{arith}
 use lib.ListN.{length, getD, length-map}
 use lib.Seq.{append-snoc}
@@ -17,11 +16,8 @@ use Rattle.residue.specs.Residue.{form}
 use Rattle.triangular.specs.Spaces.{dropOrKeep, complement}
 use Rattle.triangular.proofs.Complements.{complement-nil, complement-cons, complement-none}
 use Rattle.triangular.proofs.Cores.{form-row}
-use Rattle.family.specs.Family.{anyOf, symplecticSimplex, related, passedOn, peeled, borderedFamily}
-use Rattle.family.specs.declared.Construction.{Construction}
-use Rattle.family.specs.declared.Construction.the-variants.{Made, Stuck}
-use Rattle.family.specs.Readings.{ifMade, marked}
-use Rattle.family.specs.inner.Parts.{behind, peeledBefore}
+use Rattle.family.specs.Family.{anyOf, symplecticSimplex, related, passedOn, peeled, borderedFamily, vectors}
+use Rattle.family.specs.inner.Parts.{behind}
 
 -- ---- whether a member is dropped
 
@@ -45,84 +41,82 @@ module _ (f : ℕ → Bool) where
 
 -- ---- one turn
 
-before-snoc : (front : List ℕ) (p : ℕ) (w : Option (List (ℕ × Bool)))
-    → mapSome (peeledBefore front) (mapSome (λ l. (p, false) ∷ l) w) ≡ mapSome (peeledBefore (front ++ (p ∷ []))) w
-unfolding peeledBefore
-before-snoc front p none = refl
-before-snoc front p (some l) =
-    ap some (sym (ap (λ m. m ++ l) (map-append (λ v. (v, false)) front (p ∷ [])) ∙ append-snoc (map (λ v. (v, false)) front) (p, false) l))
+-- one more is peeled
+behind-snoc : (front : List ℕ) (p : ℕ) (w : Option (List (ℕ × Bool)))
+    → mapSome (behind front) (mapSome vectors (mapSome (λ l. (p, false) ∷ l) w)) ≡ mapSome (behind (front ++ (p ∷ []))) (mapSome vectors w)
+behind-snoc front p none = refl
+behind-snoc front p (some l) = ap some (sym (append-snoc front p (vectors l)))
 
--- what is left to do from the members that are left, behind those that were peeled
-pub record Left (E : ℕ → ℕ → Bool) (whole : Option (List (ℕ × Bool))) (vs bs : List ℕ) : Type 0 where
+-- what is left to do from the members that are left, behind the vectors that were peeled
+pub record Left (E : ℕ → ℕ → Bool) (whole : Option (List ℕ)) (vs bs : List ℕ) : Type 0 where
   pub depth : ℕ
   pub deep : length bs ≤ depth
-  pub left : mapSome (peeledBefore vs) (borderedFamily E depth bs) ≡ whole
+  pub left : mapSome (behind vs) (mapSome vectors (borderedFamily E depth bs)) ≡ whole
 
 module _ (E : ℕ → ℕ → Bool) where
-  pub family-begun : (n : ℕ) (bs : List ℕ) → length bs ≤ n → Left E (borderedFamily E n bs) [] bs
-  unfolding peeledBefore
-  family-begun n bs h = record { depth = n; deep = h; left = same (borderedFamily E n bs) }
+  pub family-begun : (n : ℕ) (bs : List ℕ) → length bs ≤ n → Left E (mapSome vectors (borderedFamily E n bs)) [] bs
+  family-begun n bs h = record { depth = n; deep = h; left = same (mapSome vectors (borderedFamily E n bs)) }
     where
-      same : (w : Option (List (ℕ × Bool))) → mapSome (λ l. l) w ≡ w
+      same : (w : Option (List ℕ)) → mapSome (λ l. l) w ≡ w
       same none = refl
       same (some l) = refl
 
-  pick-nil : (p : ℕ) → pick _⊕_ E [] ≡ some p → ⊥
-  pick-nil p e =
-      let none-picked = pick-of-uneven _⊕_ E [] (firstOne-end _⊕_ E [] 0 0 zero-le) ∙ firstUneven-end _⊕_ E [] 0 0 zero-le in
+  pick-nil : (bs : List ℕ) (p : ℕ) → length bs ≤ 0 → pick _⊕_ E bs ≡ some p → ⊥
+  pick-nil bs p h e =
+      let none-picked = pick-of-uneven _⊕_ E bs (firstOne-end _⊕_ E bs 0 0 h) ∙ firstUneven-end _⊕_ E bs 0 0 h in
       let z : _≡_ {A = ℕ} 0 1 = cc in
       omega arith
 
-  -- a depth below, and what is peeled there
-  peeled-at : (n : ℕ) (bs : List ℕ) (p : ℕ) → length bs ≤ n → pick _⊕_ E bs ≡ some p
-      → (m : ℕ) × (n ≡ suc m) × (borderedFamily E n bs ≡ mapSome (λ l. (p, false) ∷ l) (passedOn E (anyOf (E p) bs) (borderedFamily E m) (complement (E p) bs)))
-  unfolding borderedFamily peeled
-  peeled-at zero [] p h e = absurd (pick-nil p e)
-  peeled-at zero (b ∷ bs) p h e = absurd (not-suc-le-zero h)
-  peeled-at (suc m) bs p h e = (m, refl, ap (peeled E bs (borderedFamily E m)) e)
-
-  module _ (whole : Option (List (ℕ × Bool))) (vs bs : List ℕ) (l : Left E whole vs bs) where
+  module _ (whole : Option (List ℕ)) (vs bs : List ℕ) (l : Left E whole vs bs) where
     module _ (p : ℕ) (is : pick _⊕_ E bs ≡ some p) where
+      -- what is left a depth below, where p is peeled
+      abbrev Below : ℕ → Bool → Type 0
+      Below n b = (m : ℕ) × (n ≡ suc m) × (mapSome (behind (vs ++ (p ∷ []))) (mapSome vectors (passedOn E b (borderedFamily E m) (complement (E p) bs))) ≡ whole)
+
+      below : Below (l .depth) (anyOf (E p) bs)
+      unfolding borderedFamily peeled
+      below = go (l .depth) (l .deep) (l .left)
+        where
+          go : (n : ℕ) → length bs ≤ n → mapSome (behind vs) (mapSome vectors (borderedFamily E n bs)) ≡ whole → Below n (anyOf (E p) bs)
+          go zero h k = absurd (pick-nil bs p h is)
+          go (suc m) h k = (
+            m,
+            refl,
+            sym (behind-snoc vs p (passedOn E (anyOf (E p) bs) (borderedFamily E m) (complement (E p) bs)))
+                ∙ ap (λ w. mapSome (behind vs) (mapSome vectors (peeled E bs (borderedFamily E m) w))) (sym is) ∙ k,
+          )
+
       -- a member is dropped
       family-peeled : length (complement (E p) bs) < length bs → Left E whole (vs ++ (p ∷ [])) (complement (E p) bs)
-      family-peeled h = go (anyOf (E p) bs) refl (peeled-at (l .depth) bs p (l .deep) is)
+      family-peeled h = go (anyOf (E p) bs) refl below
         where
-          rest : List ℕ
-          rest = complement (E p) bs
-
-          go : (b : Bool) → anyOf (E p) bs ≡ b
-              → (m : ℕ) × (l .depth ≡ suc m) × (borderedFamily E (l .depth) bs ≡ mapSome (λ k. (p, false) ∷ k) (passedOn E (anyOf (E p) bs) (borderedFamily E m) rest))
-              → Left E whole (vs ++ (p ∷ [])) rest
-          go true q (m, e, k) = let deep = l .deep in record {
-            depth = m;
-            deep = omega arith;
-            left = sym (before-snoc vs p (borderedFamily E m rest))
-                ∙ ap (mapSome (peeledBefore vs)) (sym (k ∙ ap (λ b. mapSome (λ k. (p, false) ∷ k) (passedOn E b (borderedFamily E m) rest)) q)) ∙ l .left;
-          }
+          go : (b : Bool) → anyOf (E p) bs ≡ b → Below (l .depth) b → Left E whole (vs ++ (p ∷ [])) (complement (E p) bs)
+          go true q (m, e, k) = let deep = l .deep in record { depth = m; deep = omega arith; left = k }
           go false q (m, e, k) = let z = ap length (any-keeps (E p) bs q) in absurd (omega arith)
 
       -- none is
       family-stuck : length (complement (E p) bs) ≡ length bs → none ≡ whole
-      family-stuck h = go (anyOf (E p) bs) refl (peeled-at (l .depth) bs p (l .deep) is)
+      family-stuck h = go (anyOf (E p) bs) refl below
         where
-          go : (b : Bool) → anyOf (E p) bs ≡ b
-              → (m : ℕ) × (l .depth ≡ suc m) × (borderedFamily E (l .depth) bs ≡ mapSome (λ k. (p, false) ∷ k) (passedOn E (anyOf (E p) bs) (borderedFamily E m) (complement (E p) bs)))
-              → none ≡ whole
+          go : (b : Bool) → anyOf (E p) bs ≡ b → Below (l .depth) b → none ≡ whole
           go true q (m, e, k) = let z = any-drops (E p) bs q in absurd (omega arith)
-          go false q (m, e, k) =
-              sym (ap (mapSome (peeledBefore vs)) (k ∙ ap (λ b. mapSome (λ k. (p, false) ∷ k) (passedOn E b (borderedFamily E m) (complement (E p) bs))) q)) ∙ l .left
+          go false q (m, e, k) = k
 
     -- nothing is picked
-    pub family-rest : pick _⊕_ E bs ≡ none → mapSome (peeledBefore vs) (related E (symplecticSimplex E (length bs) bs)) ≡ whole
+    pub family-rest : pick _⊕_ E bs ≡ none → mapSome (behind vs) (symplecticSimplex E (length bs) bs) ≡ whole
     unfolding borderedFamily peeled
-    family-rest e = ap (mapSome (peeledBefore vs)) (sym (at (l .depth))) ∙ l .left
+    family-rest e = ap (mapSome (behind vs)) (sym (at (l .depth))) ∙ l .left
       where
-        at : (n : ℕ) → borderedFamily E n bs ≡ related E (symplecticSimplex E (length bs) bs)
-        at zero = refl
-        at (suc n) = ap (peeled E bs (borderedFamily E n)) e
+        plain : (w : Option (List ℕ)) → mapSome vectors (related E w) ≡ w
+        plain none = refl
+        plain (some ws) = ap some (map-map (λ a. a .0) (λ v. (v, true)) ws ∙ map-id ws)
+
+        at : (n : ℕ) → mapSome vectors (borderedFamily E n bs) ≡ symplecticSimplex E (length bs) bs
+        at zero = plain (symplecticSimplex E (length bs) bs)
+        at (suc n) = ap (λ w. mapSome vectors (peeled E bs (borderedFamily E n) w)) e ∙ plain (symplecticSimplex E (length bs) bs)
 
 -- a vector p is picked, with form row f
-module _ (E : List ℕ) (whole : Option (List (ℕ × Bool))) (vs bs : List ℕ) (l : Left (form E) whole vs bs) (p f : ℕ) (is : pick _⊕_ (form E) bs ≡ some p)
+module _ (E : List ℕ) (whole : Option (List ℕ)) (vs bs : List ℕ) (l : Left (form E) whole vs bs) (p f : ℕ) (is : pick _⊕_ (form E) bs ≡ some p)
     (row : f ≡ times p E) where
   by-form : complement (form E p) bs ≡ complement (dot f) bs
   by-form = ap (λ g. complement g bs) (form-row E p f row)
@@ -136,23 +130,3 @@ module _ (E : List ℕ) (whole : Option (List (ℕ × Bool))) (vs bs : List ℕ)
   turn-peeled h next rest n-is r-is =
       subst (λ x. Left (form E) whole x rest) (sym n-is) (subst (Left (form E) whole (vs ++ (p ∷ []))) (by-form ∙ sym r-is)
       (family-peeled (form E) whole vs bs l p is (subst (λ x. length x < length bs) (sym by-form) h)))
-
--- ---- the end
-
-marked-joined : (vs ws : List ℕ) → marked (length vs) (vs ++ ws) ≡ peeledBefore vs (map (λ w. (w, true)) ws)
-unfolding marked peeledBefore
-marked-joined [] ws = refl
-marked-joined (v ∷ vs) ws = ap (λ l. (v, false) ∷ l) (marked-joined vs ws)
-
--- those peeled in front of a simplex, where it was made
-pub joined-made : (c : Construction) (k : ℕ) (rows vs : List ℕ) (w : Option (List ℕ)) → length vs ≡ k → ifMade c rows ≡ mapSome (behind vs) w
-    → ifMade c (marked k rows) ≡ mapSome (peeledBefore vs) (mapSome (map (λ v. (v, true))) w)
-joined-made c k rows vs w size is = sym (made-map c) ∙ ap (mapSome (marked k)) is ∙ go w
-  where
-    made-map : (c : Construction) → mapSome (marked k) (ifMade c rows) ≡ ifMade c (marked k rows)
-    made-map Made = refl
-    made-map Stuck = refl
-
-    go : (w : Option (List ℕ)) → mapSome (marked k) (mapSome (behind vs) w) ≡ mapSome (peeledBefore vs) (mapSome (map (λ v. (v, true))) w)
-    go none = refl
-    go (some ws) = ap some (ap (λ n. marked n (vs ++ ws)) (sym size) ∙ marked-joined vs ws)

@@ -8,20 +8,13 @@ use Prim.Native.Nat.{ℕ, zero, suc}
 use native.Mathlib.Omega.{arith}
 use lib.ListN.{length, length-map}
 use Rattle.binar.specs.Bits.{_⊕_}
-use Rattle.blocks.specs.Matrices.{units}
-use Rattle.blocks.proofs.Units.{units-length}
 use Rattle.symplectic.specs.Picks.{orIf, mapSome, pick}
-use Rattle.residue.specs.Residue.{form}
 use Rattle.triangular.specs.Spaces.{complement}
-use Rattle.family.specs.declared.Construction.the-variants.{Made}
-use Rattle.family.specs.declared.Family.{Family}
-use Rattle.family.specs.Family.{anyOf, Split, keptBefore, splitAt, clearedOfPair, extended, withPartner, fromFirst, symplecticSimplex, related, passedOn, peeled, borderedFamily, coreFamily, vectorsOf}
-use Rattle.family.specs.Readings.{familyOf}
-use Rattle.family.proofs.Marked.{marked-length, family-of-made}
+use Rattle.family.specs.Family.{anyOf, Split, keptBefore, splitAt, clearedOfPair, extended, withPartner, fromFirst, symplecticSimplex, related, passedOn, peeled, borderedFamily}
 use Rattle.family.proofs.Peeling.{any-drops}
 
 -- one more than k
-abbrev OneMore : {A : Type 0} → ℕ → Option (List A) → Type 0
+abbrev pub OneMore : {A : Type 0} → ℕ → Option (List A) → Type 0
 OneMore k none = Unit {0}
 OneMore k (some l) = length l ≡ suc k
 
@@ -57,7 +50,7 @@ module _ (E : ℕ → ℕ → Bool) where
           let cs = map (clearedOfPair E f (t .partner)) (t .others) in
           pair (t .partner) (t .others) h (go cs) (ih cs)
 
-  simplex-size : (d : ℕ) (bs : List ℕ) → OneMore (length bs) (symplecticSimplex E d bs)
+  pub simplex-size : (d : ℕ) (bs : List ℕ) → OneMore (length bs) (symplecticSimplex E d bs)
   unfolding symplecticSimplex
   simplex-size zero bs = first-size (λ _. none) (λ _. tt) bs
   simplex-size (suc d) bs = first-size (symplecticSimplex E d) (simplex-size d) bs
@@ -81,14 +74,7 @@ module _ (E : ℕ → ℕ → Bool) where
           subst (λ k. OneMore k (mapSome (λ l. (p, false) ∷ l) (go cs))) (sym (any-drops (E p) bs e)) (one (length cs) (go cs) (ih cs))
       drops false e = tt
 
-  family-size : (d : ℕ) (bs : List ℕ) → OneMore (length bs) (borderedFamily E d bs)
+  pub family-size : (d : ℕ) (bs : List ℕ) → OneMore (length bs) (borderedFamily E d bs)
   unfolding borderedFamily
   family-size zero bs = related-size (length bs) (symplecticSimplex E (length bs) bs) (simplex-size (length bs) bs)
   family-size (suc d) bs = peeled-size bs (borderedFamily E d) (family-size d) (pick _⊕_ E bs)
-
--- the vectors of a core's family that was made
-pub vectors-size : (E : List ℕ) (f : Family) → familyOf f (vectorsOf (coreFamily E)) ≡ coreFamily E → f .construction ≡ Made → length (vectorsOf (coreFamily E)) ≡ suc (length E)
-vectors-size E f is e =
-    let vs = vectorsOf (coreFamily E) in
-    sym (marked-length (f .peeled) vs)
-    ∙ subst (OneMore (length (units (length E)))) (sym is ∙ family-of-made f vs e) (family-size (form E) (length E) (units (length E))) ∙ ap suc (units-length (length E))

@@ -1,3 +1,4 @@
 pub mod Family
+pub mod Checks
 pub mod Readings
 pub mod inner

@@ -16,23 +16,16 @@ ghost use Rattle.symplectic.specs.Picks.{mapSome, firstOne, unevenWith, firstUn
 ghost use Rattle.residue.specs.Residue.{form};
 ghost use Rattle.triangular.specs.Spaces.{complement};
 ghost use Rattle.triangular.specs.Readings.{coreIn};
-ghost use Rattle.family.specs.Family.{symplecticSimplex, borderedFamily, coreFamily, vectorsOf};
-ghost use Rattle.family.specs.Readings.{ifMade, familyOf};
-ghost use Rattle.family.specs.inner.Parts.{besideRow, pickedOf, othersOf, pairRest, behind};
+ghost use Rattle.family.specs.Family.{symplecticSimplex, borderedFamily, coreFamily, vectors, vectorsOf};
+ghost use Rattle.family.specs.inner.Parts.{ifMade, besideRow, pickedOf, othersOf, pairRest, behind};
 
 // The most vectors of a family: one more than a row has columns.
 pub const MOST_VECTORS: usize = 65;
 
 // Whether a construction was made, or stuck where it found no partner or no member to drop.
-pub enum Construction {
+enum Construction {
     Made,
     Stuck,
-}
-
-// A family: of its vectors the first `peeled` are not in the relation, and the others are.
-pub struct Family {
-    pub construction: Construction,
-    pub peeled: usize,
 }
 
 // A vector of a space beside its form row, or none.
@@ -247,12 +240,11 @@ fn symplectic_simplex(
     Construction::Made
 }
 
-// Peels while a vector is picked and a member is dropped for it; behind the vectors peeled, which are put into a list, comes the simplex
-// of the rest.
-fn peel(basis: &mut [u64], forms: &mut [u64], k: usize, list: &mut [u64]) -> Family
+// Peels while a vector is picked and a member is dropped for it. The vectors peeled are put into a list, and the simplex of the rest behind them.
+fn peel(basis: &mut [u64], forms: &mut [u64], k: usize, list: &mut [u64]) -> Construction
     requires { ⌜ (k ≤ width) × (k ≤ length (rowsIn (now basis))) × (k < length (rowsIn (now list))) ⌝ }
     ensures { λ r. ⌜ ((E : List ℕ) → matmul (take k (rowsIn (now (basis .entry)))) E ≡ take k (rowsIn (now (forms .entry)))
-        → familyOf r (take (k + 1) (rowsIn (now (list .exit)))) ≡ borderedFamily (form E) k (take k (rowsIn (now (basis .entry))))) ⌝ }
+        → ifMade r (take (k + 1) (rowsIn (now (list .exit)))) ≡ mapSome vectors (borderedFamily (form E) k (take k (rowsIn (now (basis .entry)))))) ⌝ }
 {
     let mut d = k;
     let mut peeled: usize = 0;
@@ -260,19 +252,12 @@ fn peel(basis: &mut [u64], forms: &mut [u64], k: usize, list: &mut [u64]) -> Fam
         let p = pick(basis, forms, d);
         match p {
             Picked::Nothing => {
-                let construction = symplectic_simplex(basis, forms, d, list, peeled);
-                return Family {
-                    construction: construction,
-                    peeled: peeled,
-                };
+                return symplectic_simplex(basis, forms, d, list, peeled);
             }
             Picked::Vector { member, row } => {
                 let j = first_dot(basis, 0, d, row);
                 if j == d {
-                    return Family {
-                        construction: Construction::Stuck,
-                        peeled: 0,
-                    };
+                    return Construction::Stuck;
                 }
                 drop_member(basis, forms, d, row, j);
                 blocks::put(list, peeled, member);
@@ -295,26 +280,20 @@ fn put_whole(core: &[u64], d: usize, basis: &mut [u64], forms: &mut [u64])
     }
 }
 
-// The family of a core: its vectors put over a lent list, which stays as it was where the construction is stuck. Of a longer core the
-// first binar::WIDTH rows are taken.
-pub fn bordered_family(core: &[u64], list: &mut [u64]) -> Family
-    ensures made { λ r. ⌜ familyOf r (vectorsOf (coreFamily (coreIn (now (core .entry))))) ≡ coreFamily (coreIn (now (core .entry))) ⌝ }
-    ensures left { λ _. ⌜ rowsIn (now (list .exit)) ≡ over (vectorsOf (coreFamily (coreIn (now (core .entry))))) (rowsIn (now (list .entry))) ⌝ }
+// Puts the vectors of a core's family over a lent list, which stays as it was where there is none. Of a longer core the first WIDTH rows are taken.
+pub fn bordered_family(core: &[u64], list: &mut [u64])
+    ensures { λ _. ⌜ rowsIn (now (list .exit)) ≡ over (vectorsOf (coreFamily (coreIn (now (core .entry))))) (rowsIn (now (list .entry))) ⌝ }
 {
     let d = blocks::lesser(WIDTH, blocks::rows_in(core));
     let mut basis = [0u64; WIDTH];
     let mut forms = [0u64; WIDTH];
     let mut vectors = [0u64; MOST_VECTORS];
     put_whole(core, d, &mut basis, &mut forms);
-    let f = peel(&mut basis, &mut forms, d, &mut vectors);
-    let construction = f.construction;
+    let construction = peel(&mut basis, &mut forms, d, &mut vectors);
     match construction {
         Construction::Made => {
             matrices::put_front(d + 1, &vectors, list);
-            return f;
         }
-        Construction::Stuck => {
-            return f;
-        }
+        Construction::Stuck => {}
     }
 }

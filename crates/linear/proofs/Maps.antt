@@ -1,13 +1,14 @@
 -- What additive maps do to zero, to spans and to independent lists, and a pairing's other argument.
 -- Assumes nothing.
 use mathlib.Core.Path.{_≡_, refl, sym, ap, ap₂, _∙_, subst}
-use mathlib.Core.Bool.{Bool, true, false, false≢true, Bool·beq}
+use mathlib.Core.Bool.{Bool, true, false, true≢false, false≢true, Bool·beq}
 use mathlib.Core.List.{List, [], _∷_, map}
 use Rattle.binar.specs.Bits.{_⊻_}
 use Rattle.blocks.specs.Matrices.{All}
 use Rattle.linear.specs.VectorSpace.{VectorSpace, scale}
 use Rattle.linear.specs.Span.{InSpan, Indep}
 use Rattle.linear.specs.Maps.{Additive, Pairing}
+use Rattle.linear.specs.Triangular.{Tri}
 use Rattle.linear.proofs.Sums.{add-zero, scale-o, cancel-right}
 use Rattle.linear.proofs.Instances.{𝔹}
 
@@ -59,5 +60,17 @@ module _ (S T : VectorSpace) (f : S .Car → T .Car) (f-add : Additive S T f) wh
     indep-map inj vs (i .1),
   )
 
+  -- in the span of a list whose images are independent only zero goes to zero
+  pub zero-back : (vs : List (S .Car)) → Indep T (map f vs) → (x : S .Car) → InSpan S vs x → f x ≡ T .o → x ≡ S .o
+  zero-back [] i x h e = h
+  zero-back (v ∷ vs) i x (true, h) e =
+      absurd (i .0 (subst (InSpan T (map f vs)) (f-add x v ∙ ap (λ t. T .add t (f v)) e ∙ T .zero-add (f v)) (span-map vs (S .add x v) h)))
+  zero-back (v ∷ vs) i x (false, h) e = zero-back vs (i .1) x (rw (add-zero S) at h) e
+
 pub pairing-left : (S : VectorSpace) (ω : Pairing S) (y : S .Car) → Additive S 𝔹 (λ x. ω .at x y)
 pairing-left S ω y a b = ω .comm (S .add a b) y ∙ ω .right y a b ∙ ap₂ _⊻_ (ω .comm y a) (ω .comm y b)
+
+-- a triangular list is independent
+pub tri-indep : (S : VectorSpace) (K : S .Car → S .Car → Bool) → ((p : S .Car) → Additive S 𝔹 (K p)) → (ps : List (S .Car)) → Tri K ps → Indep S ps
+tri-indep S K K-right [] t = tt
+tri-indep S K K-right (p ∷ ps) t = (λ h. true≢false (sym (t .0) ∙ span-kernel S 𝔹 (K p) (K-right p) ps (t .1) p h), tri-indep S K K-right ps (t .2))

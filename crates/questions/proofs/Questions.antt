@@ -3,6 +3,7 @@
 use mathlib.Core.Path.{_≡_, refl, ap, _∙_}
 use mathlib.Core.Bool.{Bool, true, false}
 use mathlib.Core.List.{List}
+use mathlib.Core.Logic.{_⊎_, inl, inr}
 use Prim.Native.Nat.{ℕ, zero, suc, _+_, _^_, _≤_, _<_}
 use native.Mathlib.Omega.{arith}
 use lib.Dec.{leb, eqb}
@@ -132,6 +133,15 @@ module _ (n : ℕ) (rows : List ℕ) (wanted lent : ℕ) where
   pub list-short : actionQuestions n rows ≡ 0 → lent < wanted → listQuestions n rows wanted lent ≡ 5
   unfolding listQuestions
   list-short e h = then-passed (actionQuestions n rows) (ask (leb wanted lent) 5 0) e ∙ ap (λ (b : Bool). ask b 5 0) (lt-leb wanted lent h)
+
+  -- of an action that passed, only the output words can be too few
+  pub list-or-short : actionQuestions n rows ≡ 0 → (listQuestions n rows wanted lent ≡ 0) ⊎ (listQuestions n rows wanted lent ≡ 5)
+  unfolding listQuestions
+  list-or-short e = go (leb wanted lent) (then-passed (actionQuestions n rows) (ask (leb wanted lent) 5 0) e)
+    where
+      go : (b : Bool) → listQuestions n rows wanted lent ≡ ask b 5 0 → (listQuestions n rows wanted lent ≡ 0) ⊎ (listQuestions n rows wanted lent ≡ 5)
+      go true is = inl is
+      go false is = inr is
 
   pub list-refused : (k : ℕ) → actionQuestions n rows ≡ suc k → listQuestions n rows wanted lent ≡ suc k
   unfolding listQuestions

@@ -1,12 +1,12 @@
--- Rows reduced in place: as many as fit, put back over the others, and their pivots; all of them, where there are as many for the transform and as many pivots.
+-- Rows reduced in place: as many as fit, put back over the others, and their pivots; all of them, where all fit.
 -- Assumes nothing.
 use mathlib.Core.Path.{_≡_, refl, sym, ap, ap₂, _∙_}
 use mathlib.Core.List.{List, _++_, map}
-use Prim.Native.Nat.{ℕ, _%_, _≤_, min}
+use Prim.Native.Nat.{ℕ, _≤_, min}
 use native.Mathlib.Omega.{arith}
 use lib.ListN.{length, take, drop, length-map, length-take, take-append-drop}
 use lib.Seq.{take-all}
-use Rattle.binar.specs.Rows.{rowBound}
+use Rattle.binar.specs.Rows.{width}
 use Rattle.blocks.specs.Words.{over}
 use Rattle.blocks.proofs.Overs.{over-same, over-front, over-end}
 use Rattle.reduction.specs.Columns.{rows, rowReduceWithTransform, rank, fitting}
@@ -24,13 +24,13 @@ all-length m M f = length-map (all m M) f ∙ transform-length m M
 -- ---- as many as fit
 
 -- the first k of them
-pub fitting-front : (A T ps : List ℕ) (k : ℕ) → k ≡ min (length ps) (min (length A) (length T)) → take k A ≡ fitting A T ps
+pub fitting-front : (A T ps : List ℕ) (k : ℕ) → k ≡ min width (min (length ps) (min (length A) (length T))) → take k A ≡ fitting A T ps
 unfolding fitting
 fitting-front A T ps k e = ap (λ (n : ℕ). take n A) e
 
-fitting-length : (A T ps : List ℕ) → length (fitting A T ps) ≡ min (length ps) (min (length A) (length T))
+fitting-length : (A T ps : List ℕ) → length (fitting A T ps) ≡ min width (min (length ps) (min (length A) (length T)))
 unfolding fitting
-fitting-length A T ps = length-take (min (length ps) (min (length A) (length T))) A ∙ omega arith
+fitting-length A T ps = length-take (min width (min (length ps) (min (length A) (length T)))) A ∙ omega arith
 
 module _ (m : ℕ) (A T ps : List ℕ) (r : ℕ) (ranked : r ≡ rank m (fitting A T ps)) where
   abbrev M : List ℕ
@@ -51,12 +51,12 @@ module _ (m : ℕ) (A T ps : List ℕ) (r : ℕ) (ranked : r ≡ rank m (fitting
       pivoted m M r qs (take (length M) R) ranked front
       (ap₂ (λ (n : ℕ) (l : List ℕ). take n l) (sym size) reduced ∙ over-front (map (λ x. x .0) (all m M)) A (omega (arith, size, fitting-length A T ps)))
 
--- ---- all of them, where there are at least as many for the transform and as many pivots
+-- ---- all of them, where all fit
 
-module _ (m : ℕ) (M T₀ ps : List ℕ) (enough : length M ≤ length T₀) (few : length M ≤ length ps) where
+module _ (m : ℕ) (M T₀ ps : List ℕ) (fits : length M ≤ min width (min (length ps) (length T₀))) where
   whole : fitting M T₀ ps ≡ M
   unfolding fitting
-  whole = take-all (min (length ps) (min (length M) (length T₀))) M (omega arith)
+  whole = take-all (min width (min (length ps) (min (length M) (length T₀)))) M (omega arith)
 
   pub rank-whole : (p : ℕ) → p ≡ rank m (fitting M T₀ ps) → p ≡ rank m M
   rank-whole p ranked = ranked ∙ ap (rank m) whole
@@ -70,6 +70,6 @@ module _ (m : ℕ) (M T₀ ps : List ℕ) (enough : length M ≤ length T₀) (f
   rows-whole R is = back (λ x. x .0) R M refl is
 
   pub reduced-whole : (p : ℕ) (R T : List ℕ) → length M ≡ length T₀ → p ≡ rank m (fitting M T₀ ps) → R ≡ over (map (λ x. x .0) (all m (fitting M T₀ ps))) M
-      → T ≡ over (map (λ x. x .1 % rowBound) (all m (fitting M T₀ ps))) T₀ → ReducedIn m M p R T (rowReduceWithTransform m M .pivots)
+      → T ≡ over (map (λ x. x .1) (all m (fitting M T₀ ps))) T₀ → ReducedIn m M p R T (rowReduceWithTransform m M .pivots)
   reduced-whole p R T even ranked reduced transformed =
-      (rank-whole p ranked, rows-whole R reduced, back (λ x. x .1 % rowBound) T T₀ even transformed, refl)
+      (rank-whole p ranked, rows-whole R reduced, back (λ x. x .1) T T₀ even transformed, refl)

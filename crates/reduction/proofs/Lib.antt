@@ -9,7 +9,6 @@ pub mod TwoLists
 pub mod Swept
 pub mod Loops
 pub mod Words
-pub mod Cut
 pub mod Parts
 pub mod InPlace
 pub mod Narrow

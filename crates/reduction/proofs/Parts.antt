@@ -2,17 +2,13 @@
 -- Assumes nothing.
 use mathlib.Core.Path.{_≡_, sym, ap, _∙_}
 use mathlib.Core.List.{List, map, map-append}
-use Prim.Native.Nat.{ℕ, _%_, _≤_}
+use Prim.Native.Nat.{ℕ, _≤_}
 use native.Mathlib.Omega.{arith}
 use lib.ListN.{length, take, drop, length-map}
 use lib.Seq.{take-at, drop-at}
-use Rattle.binar.specs.Rows.{width, rowBound}
-use Rattle.binar.proofs.Widths.{kept-whole}
-use Rattle.blocks.specs.Matrices.{All}
-use Rattle.blocks.proofs.All.{All·map}
 use Rattle.reduction.specs.Columns.{Echelon, rows, rowReduceWithTransform, rank}
 use Rattle.reduction.specs.inner.Sweeps.{ReducedIn}
-use Rattle.reduction.proofs.Transform.{transform-rows-lt, up-rank, rank-length, transform-length}
+use Rattle.reduction.proofs.Transform.{up-rank, rank-length, transform-length}
 
 -- ---- the front and the back of a reduction
 
@@ -28,10 +24,6 @@ module _ (m : ℕ) (M : List ℕ) where
   back f p e =
       ap (drop p) (map-append f (all .up) (all .down)) ∙ drop-at (map f (all .up)) (map f (all .down)) p (length-map (all .up) f ∙ up-rank m M ∙ sym e)
 
-  -- no row of the transform is cut, where a row has columns enough
-  pub uncut : length M ≤ width → All (λ a. a .1 % rowBound ≡ a .1) (rows all)
-  uncut w = All·map (λ a h. kept-whole (length M) (a .1) w h) (rows all) (transform-rows-lt m M)
-
 -- ---- words that a matrix was reduced in
 
 module _ (m p : ℕ) (M R T ps : List ℕ) (done : ReducedIn m M p R T ps) where
@@ -46,4 +38,4 @@ module _ (m p : ℕ) (M R T ps : List ℕ) (done : ReducedIn m M p R T ps) where
   pub rank-in-transform : p ≤ length T
   rank-in-transform =
       let all = rows (rowReduceWithTransform m M) in
-      omega (arith, rank-in, ap length (done .2), length-map all (λ a. a .1 % rowBound), transform-length m M)
+      omega (arith, rank-in, ap length (done .2), length-map all (λ a. a .1), transform-length m M)

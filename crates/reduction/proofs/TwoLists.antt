@@ -39,19 +39,6 @@ module _ {A B : Type 0} where
   zip-set (r ∷ R) (t ∷ T) zero a b = refl
   zip-set (r ∷ R) (t ∷ T) (suc i) a b = ap (λ l. (r, t) ∷ l) (zip-set R T i a b)
 
-  pub zip-take : (p : ℕ) (R : List A) (T : List B) → take p (zip R T) ≡ zip (take p R) (take p T)
-  unfolding zip zipWith
-  zip-take zero R T = refl
-  zip-take (suc p) [] T = refl
-  zip-take (suc p) (r ∷ R) [] = refl
-  zip-take (suc p) (r ∷ R) (t ∷ T) = ap (λ l. (r, t) ∷ l) (zip-take p R T)
-
-  pub zip-mapped : {C : Type 0} (g : B → C) (R : List A) (T : List B) → zip R (map g T) ≡ map (λ a. (a .0, g (a .1))) (zip R T)
-  unfolding zip zipWith
-  zip-mapped g [] T = refl
-  zip-mapped g (r ∷ R) [] = refl
-  zip-mapped g (r ∷ R) (t ∷ T) = ap (λ l. (r, g t) ∷ l) (zip-mapped g R T)
-
   -- the first of the pairs above the pivot row, and the second
   pub above-left : (p : ℕ) (R : List A) (T : List B) → length R ≡ length T → map (λ a. a .0) (take p (zip R T)) ≡ take p R
   unfolding zip zipWith

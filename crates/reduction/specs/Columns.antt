@@ -6,6 +6,7 @@ use mathlib.Core.List.{List, [], _∷_, _++_, map, zip}
 use Prim.Native.Nat.{ℕ, zero, suc, min}
 use lib.ListN.{length, take}
 use Rattle.binar.specs.Bits.{select, bit}
+use Rattle.binar.specs.Rows.{width}
 use Rattle.blocks.specs.Matrices.{units}
 use Rattle.symplectic.specs.Picks.{addBoth}
 
@@ -76,6 +77,7 @@ rowReduceWithTransform m M = columns (0, 0) addBoth (λ c a. bit c (a .0)) m 0 (
 unfoldable pub rank : ℕ → List ℕ → ℕ
 rank m M = length (rowReduceWithTransform m M .pivots)
 
--- the rows of A that are reduced in place, with the transform in the rows of T and the pivots in ps: as many as all three have
+-- the rows of A that are reduced in place, with the transform in the rows of T and the pivots in ps: as many as all three have, at most as many as a row has columns:
+-- then a row of the transform has all its columns
 unfoldable pub fitting : List ℕ → List ℕ → List ℕ → List ℕ
-fitting A T ps = take (min (length ps) (min (length A) (length T))) A
+fitting A T ps = take (min width (min (length ps) (min (length A) (length T)))) A

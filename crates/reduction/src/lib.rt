@@ -1,13 +1,14 @@
 // Reduction by columns: rows with their transform, the rank and the pivots.
 // In the source: transvection_exact.rs, `row_reduce_with_transform`.
 use binar::Row;
+use binar::WIDTH;
 ghost use mathlib.Core.Path.{_≡_};
 ghost use mathlib.Core.Bool.{true, false};
 ghost use mathlib.Core.List.{map, zip};
-ghost use Prim.Native.Nat.{ℕ, _%_, _≤_, _<_};
+ghost use Prim.Native.Nat.{ℕ, _≤_, _<_};
 ghost use lib.ListN.{getD, take, drop, length};
 ghost use Rattle.binar.specs.Bits.{bit as bitOf};
-ghost use Rattle.binar.specs.Rows.{val, rowBound};
+ghost use Rattle.binar.specs.Rows.{val, width};
 ghost use Rattle.blocks.specs.Matrices.{units, All};
 ghost use Rattle.blocks.specs.Words.{rowsIn, over};
 ghost use Rattle.symplectic.specs.Picks.{addBoth};
@@ -104,9 +105,10 @@ fn by_columns(m: usize, a: &mut [u64], t: &mut [u64], pivots: &mut [usize]) -> u
     p
 }
 
-// Puts the unit rows, each as far as a row has columns.
+// Puts the unit rows.
 fn put_units(t: &mut [u64])
-    ensures { λ _. ⌜ rowsIn (now (t .exit)) ≡ map (λ u. u % rowBound) (units (length (rowsIn (now (t .entry))))) ⌝ }
+    requires { ⌜ length (rowsIn (now t)) ≤ width ⌝ }
+    ensures { λ _. ⌜ rowsIn (now (t .exit)) ≡ units (length (rowsIn (now (t .entry)))) ⌝ }
 {
     let k = blocks::rows_in(t);
     for i in 0..k {
@@ -116,7 +118,7 @@ fn put_units(t: &mut [u64])
 
 // Reduces the rows of a by their first m columns, with the transform in t; answers the rank. Numbers behind the pivots stay as they were.
 fn reduce(m: usize, a: &mut [u64], t: &mut [u64], pivots: &mut [usize]) -> usize
-    requires { ⌜ (length (rowsIn (now a)) ≡ length (rowsIn (now t))) × (length (rowsIn (now a)) ≤ length (now pivots)) ⌝ }
+    requires { ⌜ (length (rowsIn (now a)) ≡ length (rowsIn (now t))) × (length (rowsIn (now a)) ≤ length (now pivots)) × (length (rowsIn (now a)) ≤ width) ⌝ }
     ensures { λ r. ⌜ ReducedIn m (rowsIn (now (a .entry))) r (rowsIn (now (a .exit))) (rowsIn (now (t .exit))) (take r (now (pivots .exit)))
         × (drop r (now (pivots .exit)) ≡ drop r (now (pivots .entry))) ⌝ }
 {
@@ -124,8 +126,8 @@ fn reduce(m: usize, a: &mut [u64], t: &mut [u64], pivots: &mut [usize]) -> usize
     by_columns(m, a, t, pivots)
 }
 
-// The rows of a reduced in place by their first m columns, with the transform, as far as a row of it has columns, in t and the pivots in `pivots`; answers the rank.
-// As many rows as all three have.
+// The rows of a reduced in place by their first m columns, with the transform in t and the pivots in `pivots`; answers the rank.
+// As many rows as all three have, at most as many as a row has columns.
 pub fn row_reduce_with_transform(
     m: usize,
     a: &mut [u64],
@@ -136,7 +138,7 @@ pub fn row_reduce_with_transform(
     ensures reduced { λ r. ⌜ rowsIn (now (a .exit))
         ≡ over (map (λ x. x .0) (allRows (rowReduceWithTransform m (fitting (rowsIn (now (a .entry))) (rowsIn (now (t .entry))) (now (pivots .entry)))))) (rowsIn (now (a .entry))) ⌝ }
     ensures transformed { λ r. ⌜ rowsIn (now (t .exit))
-        ≡ over (map (λ x. x .1 % rowBound) (allRows (rowReduceWithTransform m (fitting (rowsIn (now (a .entry))) (rowsIn (now (t .entry))) (now (pivots .entry)))))) (rowsIn (now (t .entry))) ⌝ }
+        ≡ over (map (λ x. x .1) (allRows (rowReduceWithTransform m (fitting (rowsIn (now (a .entry))) (rowsIn (now (t .entry))) (now (pivots .entry)))))) (rowsIn (now (t .entry))) ⌝ }
     ensures pivoted { λ r. ⌜ now (pivots .exit) ≡ over (rowReduceWithTransform m (fitting (rowsIn (now (a .entry))) (rowsIn (now (t .entry))) (now (pivots .entry))) .pivots) (now (pivots .entry)) ⌝ }
     ensures first_ones { λ r. ⌜ FirstOnes r (take r (now (pivots .exit))) (take (length (fitting (rowsIn (now (a .entry))) (rowsIn (now (t .entry))) (now (pivots .entry)))) (rowsIn (now (a .exit)))) ⌝ }
     ensures no_other_ones { λ r. ⌜ NoOtherOnes r (take r (now (pivots .exit))) (take (length (fitting (rowsIn (now (a .entry))) (rowsIn (now (t .entry))) (now (pivots .entry)))) (rowsIn (now (a .exit)))) ⌝ }
@@ -144,7 +146,7 @@ pub fn row_reduce_with_transform(
     ensures within { λ r. ⌜ All (λ p. p < m) (take r (now (pivots .exit))) ⌝ }
 {
     let both = blocks::lesser(blocks::rows_in(a), blocks::rows_in(t));
-    let k = blocks::lesser(pivots.len(), both);
+    let k = blocks::lesser(WIDTH, blocks::lesser(pivots.len(), both));
     let to = blocks::start(a, k);
     let until = blocks::start(t, k);
     reduce(m, &mut a[..to], &mut t[..until], pivots)

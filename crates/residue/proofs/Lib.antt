@@ -2,3 +2,4 @@ pub mod Forms
 pub mod Core
 pub mod Loops
 pub mod Parts
+pub mod Coordinates

@@ -2,26 +2,25 @@
 -- Assumes nothing.
 use mathlib.Core.Path.{_≡_, sym, ap, ap₂, _∙_}
 use mathlib.Core.List.{List, _++_, map}
-use Prim.Native.Nat.{ℕ, _+_, _-_, _%_, _^_, _≤_, _<_}
+use Prim.Native.Nat.{ℕ, _+_, _-_, _^_, _≤_, _<_}
 use native.Mathlib.Omega.{arith}
 use lib.ListN.{length, take, drop, getD, length-map, length-append, length-drop, length-take, List·getD-append}
 use lib.Seq.{getD-append-add, getD-take, getD-drop}
 use Rattle.binar.specs.Bits.{_⊕_}
-use Rattle.binar.specs.Rows.{width, rowBound}
+use Rattle.binar.specs.Rows.{width}
 use Rattle.binar.proofs.Sums.{sum-comm}
 use Rattle.blocks.specs.Matrices.{times, units}
 use Rattle.blocks.specs.Words.{over}
-use Rattle.blocks.proofs.All.{All·at, All·left}
+use Rattle.blocks.proofs.All.{All·at}
 use Rattle.blocks.proofs.Products.{times-unit}
 use Rattle.blocks.proofs.Units.{units-length, units-lt, units-at}
 use Rattle.blocks.proofs.Values.{map-get}
 use Rattle.symplectic.specs.Sizes.{maxQubits}
 use Rattle.symplectic.specs.Turns.{identityPlus}
-use Rattle.symplectic.proofs.Lists.{map-eq}
 use Rattle.symplectic.proofs.Layers.{added, added-is, identityPlus-is}
 use Rattle.reduction.specs.Columns.{rowReduceWithTransform, rank}
 use Rattle.reduction.specs.inner.Sweeps.{ReducedIn}
-use Rattle.reduction.proofs.Parts.{front, uncut, rank-in}
+use Rattle.reduction.proofs.Parts.{front, rank-in}
 use Rattle.residue.specs.Residue.{residue, reduction, basis, transform, timesTransposed, core}
 use Rattle.residue.proofs.Core.{residue-length, basis-rank}
 
@@ -81,19 +80,12 @@ module _ (n q p : ℕ) (F M R T ps : List ℕ) (size : length F ≡ q + q) (smal
   unfolding basis
   basis-end = ap (take p) (done .1) ∙ front (n + n) M (λ a. a .0) p (done .0) ∙ ap (λ h. map (λ a. a .0) (h .up)) same-rows
 
-  wide : length M ≤ width
-  wide = omega (arith, ap length is, residue-length q F size)
-
   pub rank-wide : p ≤ width
-  rank-wide = omega (arith, rank-in (n + n) p M R T ps done, wide)
+  rank-wide = omega (arith, rank-in (n + n) p M R T ps done, ap length is, residue-length q F size)
 
   transform-end : take p T ≡ transform q F
   unfolding transform
-  transform-end =
-      let h = rowReduceWithTransform (n + n) M in
-      ap (take p) (done .2) ∙ front (n + n) M (λ a. a .1 % rowBound) p (done .0)
-      ∙ map-eq (λ a. a .1 % rowBound) (λ a. a .1) (h .up) (All·left (λ a. a .1 % rowBound ≡ a .1) (h .up) (h .down) (uncut (n + n) M wide))
-      ∙ ap (λ h. map (λ a. a .1) (h .up)) same-rows
+  transform-end = ap (take p) (done .2) ∙ front (n + n) M (λ a. a .1) p (done .0) ∙ ap (λ h. map (λ a. a .1) (h .up)) same-rows
 
   pub core-end : timesTransposed (take p R) (take p T) ≡ core q F
   unfolding core

@@ -15,9 +15,9 @@ use Rattle.triangular.specs.Memory.{entryBasis}
 use Rattle.triangular.proofs.Entries.{reduced-is, reduced-size}
 
 -- the first d of them, where there is room for d pivots
-pub reduced-front : (d : ℕ) (A T ps R : List ℕ) → length ps ≡ d → d ≤ length A → d ≤ length T
+pub reduced-front : (d : ℕ) (A T ps R : List ℕ) → d ≤ width → length ps ≡ d → d ≤ length A → d ≤ length T
     → R ≡ over (map (λ x. x .0) (rows (rowReduceWithTransform width (fitting A T ps)))) A → take d R ≡ entryBasis width (take d A)
-reduced-front d A T ps R size h k is =
+reduced-front d A T ps R wide size h k is =
     let first : take d A ≡ fitting A T ps = fitting-front A T ps d (omega arith) in
     let whole : R ≡ over (entryBasis width (take d A)) A = is ∙ ap (λ (M : List ℕ). over (map (λ x. x .0) (rows (rowReduceWithTransform width M))) A) (sym first) ∙ ap (λ (l : List ℕ). over l A) (sym (reduced-is width (take d A))) in
     let long : length (entryBasis width (take d A)) ≡ d = reduced-size width (take d A) ∙ length-take-le d A h in

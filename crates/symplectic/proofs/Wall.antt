@@ -77,11 +77,6 @@ module _ (S : VectorSpace) (ω : Pairing S) (Q : VectorSpace) (f : Q .Car → S 
           ∙ ap₂ (λ s t. s ⊻ scale 𝔹 c t) e (K-sum r p ∙ bxor-comm (K r p) (K p r) ∙ ap (λ t. t ⊻ K r p) g)
           ∙ sym (map-at Q 𝔹 (K r) (K-right r) q c p)
 
-  -- a triangular list is independent
-  pub indep-of-tri : (ps : List (Q .Car)) → Tri K ps → Indep Q ps
-  indep-of-tri [] t = tt
-  indep-of-tri (p ∷ ps) t = (λ h. true≢false (sym (t .0) ∙ span-kernel Q 𝔹 (K p) (K-right p) ps (t .1) p h), indep-of-tri ps (t .2))
-
 module _ (S : VectorSpace) (ω : Pairing S) (N : Residue S ω) (P : VectorSpace) (ψ : P .Car → S .Car) (ψ-add : Additive P S ψ) where
   open VectorSpace S using (Car, add as _⊕_, o, add-assoc, add-comm, add-self, zero-add)
 

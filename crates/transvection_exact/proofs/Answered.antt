@@ -10,9 +10,9 @@ use Rattle.questions.specs.Replies.{Reply, refused, listQuestions, Replays}
 use Rattle.questions.proofs.Answered.{Meets, Holds, meets-refused, meets-answer}
 use Rattle.triangular.specs.Search.{Outcome, looksOf, budgeted}
 use Rattle.transvection_exact.specs.Minimal.{coreSearch, searchedReply, minimalReply}
-use Rattle.transvection_exact.specs.Answers.{Shortest, ExactFor}
-use Rattle.transvection_exact.proofs.Least.{Least}
-use Rattle.transvection_exact.proofs.Replies.{replyFor, core-least, answered-product, answered-shortest, answered-looks, spent-only, spent-where, spent-looks}
+use Rattle.transvection_exact.specs.Answers.{Shortest, ExactFor, EveryLayer}
+use Rattle.transvection_exact.proofs.Shortest.{RightOf, core-right}
+use Rattle.transvection_exact.proofs.Replies.{replyFor, answered-product, answered-shortest, answered-looks, spent-only, spent-where, spent-looks, every-layer}
 
 module _ (n : ℕ) (rows : List ℕ) (budget : ℕ) (out : List ℕ) where
   abbrev asked : ℕ
@@ -25,16 +25,16 @@ module _ (n : ℕ) (rows : List ℕ) (budget : ℕ) (out : List ℕ) where
     answer = searchedReply n (rowsOfWords n rows) (budgeted budget o) out
 
     abbrev pub PromisedFor : List ℕ → Figures → Type 0
-    PromisedFor left t = Replays n rows left t × (Shortest n rows t × ExactFor (looksOf o) n rows budget out t)
+    PromisedFor left t = Replays n rows left t × (Shortest n rows t × (ExactFor (looksOf o) n rows budget out t × EveryLayer n rows t))
 
-    pub call-shortest : (listQuestions n (rowsOfWords n rows) (n + n + 1) (length out) ≡ 0 → Least n (rowsOfWords n rows) o) → Holds PromisedFor (replyFor n rows budget out o)
+    pub call-shortest : RightOf n (rowsOfWords n rows) o → Holds PromisedFor (replyFor n rows budget out o)
     call-shortest h = (
       answered-product n rows budget out o h,
       (
         answered-shortest n rows budget out o h,
         (
-          spent-only n rows budget out o h,
-          (λ b. spent-where n rows budget out o h (b .0) (b .1), (answered-looks n rows budget out o h, spent-looks n rows budget out o h)),
+          (spent-only n rows budget out o h, (λ b. spent-where n rows budget out o h (b .0) (b .1), (answered-looks n rows budget out o h, spent-looks n rows budget out o h))),
+          every-layer n rows budget out o h,
         ),
       ),
     )
@@ -63,4 +63,4 @@ module _ (n : ℕ) (rows : List ℕ) (budget : ℕ) (out : List ℕ) where
 
   pub minimal-shortest : Holds Promised (minimalReply n rows budget out)
   unfolding minimalReply
-  minimal-shortest = call-shortest core (core-least n rows budget out)
+  minimal-shortest = call-shortest core (core-right n (rowsOfWords n rows))

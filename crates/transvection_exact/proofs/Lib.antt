@@ -1,5 +1,5 @@
 pub mod Lengths
-pub mod Least
+pub mod Shortest
 pub mod Ends
 pub mod Replies
 pub mod Answered

@@ -1,38 +1,40 @@
--- What a search of a core and the bordered list have come to, as the replies of questions 6 and 7.
+-- What a search of a core has come to, as the reply of question 6.
 -- Assumes nothing.
 use mathlib.Core.Path.{_≡_, sym, ap, _∙_, subst}
 use mathlib.Core.List.{List}
-use mathlib.Core.Option.{Option, none, some}
-use Prim.Native.Nat.{ℕ, suc, _+_, _≤_}
+use Prim.Native.Nat.{ℕ, _+_, _≤_}
+use native.Mathlib.Omega.{arith}
 use lib.ListN.{length}
+use lib.Seq.{take-all}
+use Rattle.binar.specs.Rows.{width}
 use Rattle.blocks.specs.Words.{rowsIn}
-use Rattle.blocks.specs.Matrices.{units, matmul}
+use Rattle.blocks.specs.Matrices.{matmul}
 use Rattle.blocks.proofs.Products.{matmul-is}
 use Rattle.symplectic.specs.Sizes.{maxQubits}
 use Rattle.questions.specs.Replies.{refused, listed}
 use Rattle.residue.specs.Residue.{basis, core}
-use Rattle.residue.proofs.Core.{core-length}
-use Rattle.residue.proofs.Forms.{formOf}
+use Rattle.residue.proofs.Core.{core-length, core-within}
 use Rattle.search.specs.declared.Ended.{Ended}
 use Rattle.triangular.specs.declared.Ending.the-variants.{Found, Failed, Spent}
 use Rattle.triangular.specs.Search.{Outcome, found, failed, Verdict, ended, spent, budgeted}
 use Rattle.triangular.specs.Readings.{coreIn, verdictOf, basisFound}
 use Rattle.triangular.proofs.Budgets.{of-ended, says-found, says-failed, says-spent}
-use Rattle.triangular.proofs.Complete.{Right}
-use Rattle.bordered.specs.declared.Candidate.{Candidate}
-use Rattle.bordered.specs.declared.Candidate.the-variants.{Passed, Rejected}
-use Rattle.bordered.specs.Checks.{borderedList}
-use Rattle.bordered.specs.Readings.{ifPassed, listOf}
-use Rattle.bordered.proofs.Listed.{core-fits, listed-passed, listed-rejected}
-use Rattle.bordered.proofs.Verified.{Passed as Checked, bordered-passed}
-use Rattle.transvection_exact.specs.Minimal.{borderedReply, searchedReply}
+use Rattle.triangular.proofs.Cores.{core-in}
+use Rattle.family.specs.Family.{coreFamily, vectorsOf}
+use Rattle.family.proofs.Passes.{bordered-is}
+use Rattle.transvection_exact.specs.Minimal.{searchedReply}
+use Rattle.transvection_exact.proofs.Shortest.{RightOf}
 
 -- ---- the core in the code's words
 
--- what is made of the rows of the core and their count is made of the core and the rank
 module _ (n : ℕ) (F : List ℕ) (size : length F ≡ n + n) (small : n ≤ maxQubits) (w : List ℕ) (is : rowsIn w ≡ core n F) where
+  -- no row of the core is left out
+  pub core-fits : coreIn w ≡ core n F
+  core-fits = core-in w ∙ take-all width (rowsIn w) (omega (arith, ap length is, core-within n F size)) ∙ is
+
+  -- what is made of the rows of the core and their count is made of the core and the rank
   pub of-core : {A : Type 0} (f : List ℕ → ℕ → A) → f (coreIn w) (length (coreIn w)) ≡ f (core n F) (length (basis n F))
-  of-core f = ap (λ (E : List ℕ). f E (length E)) (core-fits n F size small w is) ∙ ap (f (core n F)) (core-length n F)
+  of-core f = ap (λ (E : List ℕ). f E (length E)) core-fits ∙ ap (f (core n F)) (core-length n F)
 
 -- what a search of the code has come to, of the outcome that it has without a budget
 abbrev pub Came : Ended → ℕ → Outcome → Type 0
@@ -60,28 +62,15 @@ module _ (n : ℕ) (F : List ℕ) (budget : ℕ) (out : List ℕ) (x : Outcome) 
       ∙ ap (λ (m : List ℕ). listed n m (o .looks) out) (sym (l ∙ matmul-is (basisFound verdict) (basis n F)))
 
   -- a right search finds as many draws as the core has rows
-  pub found-size : (let r = length (basis n F) in Right (formOf (core n F)) r (units r) x) → o .ending ≡ Found → (w : List ℕ) → rowsIn w ≡ core n F
+  pub found-size : RightOf n F x → o .ending ≡ Found → (w : List ℕ) → rowsIn w ≡ core n F
       → length (basisFound (budgeted budget x)) ≡ length (rowsIn w)
   found-size right e w is =
-      let r = length (basis n F) in
-      subst (Right (formOf (core n F)) r (units r)) (sym (of-ended budget x (found (basisFound verdict) (o .looks)) (sym (found-is e)) .0)) right .2
+      subst (RightOf n F) (sym (of-ended budget x (found (basisFound verdict) (o .looks)) (sym (found-is e)) .0)) right .2
       ∙ sym (ap length is ∙ core-length n F)
 
-  -- the search fails: the bordered list v, or none
-  module _ (fails : o .ending ≡ Failed) (c : Candidate) (v : Option (List ℕ)) (by : v ≡ borderedList n F) (passes : ifPassed c (listOf v) ≡ v) where
-    bordered-by : (p : Option (List ℕ)) → v ≡ p → searchedReply n F verdict out ≡ borderedReply n p (o .looks) out
-    bordered-by p e =
-        by-verdict (ended (failed (o .looks))) (sym came ∙ says-failed (o .ending) (o .looks) (basisFound verdict) fails)
-        ∙ ap (λ (q : Option (List ℕ)). borderedReply n q (o .looks) out) (sym by ∙ e)
-
-    pub searched-unbordered : c ≡ Rejected → searchedReply n F (budgeted budget x) out ≡ refused 7 (o .looks) out
-    searched-unbordered e = bordered-by none (listed-rejected c v e passes)
-
-    pub searched-bordered : (vs : List ℕ) → c ≡ Passed → vs ≡ listOf v → searchedReply n F (budgeted budget x) out ≡ listed n vs (o .looks) out
-    searched-bordered vs e l = bordered-by (some vs) (listed-passed c v e passes ∙ ap some (sym l))
-
--- a bordered list that passes has one vector more than the core has rows
-pub bordered-size : (n : ℕ) (F w : List ℕ) → rowsIn w ≡ core n F → (c : Candidate) (v : Option (List ℕ)) → v ≡ borderedList n F → ifPassed c (listOf v) ≡ v
-    → c ≡ Passed → length (listOf v) ≡ suc (length (rowsIn w))
-bordered-size n F w is c v by passes e =
-    subst (Checked n F) (sym by ∙ listed-passed c v e passes) (bordered-passed n F) .size ∙ ap suc (sym (ap length is ∙ core-length n F))
+  -- the search fails: the family's vectors
+  pub searched-failed : (vs : List ℕ) → o .ending ≡ Failed → vs ≡ matmul (vectorsOf (coreFamily (core n F))) (basis n F)
+      → searchedReply n F (budgeted budget x) out ≡ listed n vs (o .looks) out
+  searched-failed vs e l =
+      by-verdict (ended (failed (o .looks))) (sym came ∙ says-failed (o .ending) (o .looks) (basisFound verdict) e)
+      ∙ ap (λ (m : List ℕ). listed n m (o .looks) out) (bordered-is n F ∙ sym (l ∙ matmul-is (vectorsOf (coreFamily (core n F))) (basis n F)))

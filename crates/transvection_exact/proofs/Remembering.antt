@@ -1,23 +1,21 @@
 -- The minimal call with a lent memory: its list is as short, it stands beside document 01's call, and with room for no entry it is that call.
 -- Assumes nothing.
 use mathlib.Core.Path.{_≡_, refl, sym, ap, _∙_, subst, subst₂}
-use mathlib.Core.Bool.{Bool, true, false}
-use mathlib.Core.List.{List, [], map}
-use mathlib.Core.Option.{Option, none, some}
-use Prim.Native.Nat.{ℕ, zero, suc, _+_, _^_, _≤_, _<_}
+use mathlib.Core.Bool.{Bool, true, false, cond}
+use mathlib.Core.List.{List, []}
+use Prim.Native.Nat.{ℕ, zero, suc, _+_, _≤_}
 use native.Mathlib.Nat.{le-refl}
 use native.Mathlib.Omega.{arith}
-use lib.Dec.{leb}
+use lib.Dec.{leb, eqb}
 use lib.ListN.{length}
 use borrow.Author.Tests.{leb-true, leb-false}
-use Rattle.blocks.specs.Matrices.{times, units, All}
+use Rattle.blocks.specs.Matrices.{units, All}
 use Rattle.blocks.specs.Words.{rowsIn, rowsOfWords, over, laid}
 use Rattle.blocks.proofs.Overs.{over-nil}
 use Rattle.blocks.proofs.Units.{units-length, units-lt}
 use Rattle.linear.specs.Maps.{Form}
 use Rattle.linear.proofs.Instances.{𝕎}
 use Rattle.symplectic.specs.Sizes.{maxQubits}
-use Rattle.symplectic.specs.Turns.{symplectic}
 use Rattle.questions.specs.declared.Figures.{Figures}
 use Rattle.questions.specs.Replies.{Reply, refused, unlessRefused, actionQuestions, listQuestions, Replays}
 use Rattle.questions.proofs.Questions.{list-refused}
@@ -25,7 +23,7 @@ use Rattle.questions.proofs.Answered.{Meets, Holds}
 use Rattle.residue.specs.Residue.{basis, core, form}
 use Rattle.residue.proofs.Forms.{formOf}
 use Rattle.triangular.specs.Readings.{coreIn}
-use Rattle.triangular.specs.Search.{Outcome, found, failed, looksOf, endedIf, budgeted, Verdict}
+use Rattle.triangular.specs.Search.{Outcome, found, failed, looksOf, Verdict, ended, endedIf, budgeted}
 use Rattle.triangular.specs.Memory.{Entry, Remembered, searchWith, searchedCore, knownWithin}
 use Rattle.triangular.proofs.Complete.{Right}
 use Rattle.triangular.proofs.Budgets.{budgeted-is}
@@ -33,11 +31,11 @@ use Rattle.triangular.proofs.Entries.{known-nil}
 use Rattle.triangular.proofs.Remembers.{Dead, Follows, remembers, plain-search}
 use Rattle.memory.specs.Entries.{memoryWords, roomIn}
 use Rattle.memory.proofs.Kept.{room-none, words-none}
-use Rattle.bordered.specs.Checks.{borderedList}
-use Rattle.transvection_exact.specs.Minimal.{coreSearch, coreSearchWith, borderedReply, endedReply, searchedReply, minimalReply, rememberingReply, unlessAsked, memoryLeft}
-use Rattle.transvection_exact.specs.Answers.{Shortest, ExactWith, AsWithout, Plainly}
-use Rattle.transvection_exact.proofs.Least.{Least, least-of-right, core-right}
-use Rattle.transvection_exact.proofs.Replies.{passed-least, reply-left}
+use Rattle.family.specs.Checks.{timesBasis}
+use Rattle.transvection_exact.specs.Minimal.{coreSearch, coreSearchWith, searchedReply, minimalReply, rememberingReply, unlessAsked, memoryLeft}
+use Rattle.transvection_exact.specs.Answers.{Shortest, ExactWith, AsWithout, EveryLayer, Plainly}
+use Rattle.transvection_exact.proofs.Shortest.{RightOf, core-right}
+use Rattle.transvection_exact.proofs.Replies.{reply-refused}
 use Rattle.transvection_exact.proofs.Answered.{call-shortest, call-refused, call-searched}
 use Rattle.transvection_exact.proofs.Outcomes.{of-core}
 
@@ -62,14 +60,11 @@ module _ (n : ℕ) (F : List ℕ) where
     pub entries-dead : All (Dead (formOf (core n F)) (length (basis n F))) (coreSearchWith n F room .memory)
     entries-dead = follows .2
 
-    pub remembered-right : let r = length (basis n F) in Right (formOf (core n F)) r (units r) (coreSearchWith n F room .outcome)
+    pub remembered-right : RightOf n F (coreSearchWith n F room .outcome)
     remembered-right =
         let r = length (basis n F) in
         let s = coreSearchWith n F room in
         follows-right (formOf (core n F)) r r (units r) (s .outcome) (s .memory) (coreSearch n F) follows (core-right n F)
-
-  pub remembered-least : length F ≡ n + n → All (λ f. f < 2 ^ (n + n)) F → symplectic n F ≡ true → (room : ℕ) → Least n F (coreSearchWith n F room .outcome)
-  remembered-least size bounded symp room = least-of-right n F size bounded symp (coreSearchWith n F room .outcome) (remembered-right room)
 
   -- with no room it is document 01's search
   pub plain-core : coreSearchWith n F 0 ≡ record { outcome = coreSearch n F; memory = [] }
@@ -90,28 +85,17 @@ beside-itself : (r : Reply) → Beside r r
 beside-itself r = (λ z. z, (λ h. (refl, (refl, refl)), le-refl (r .figures .looks)))
 
 module _ (n : ℕ) (F out : List ℕ) where
-  bordered-looks : (v : Option (List ℕ)) (l : ℕ) → borderedReply n v l out .figures .looks ≡ l
-  bordered-looks none l = refl
-  bordered-looks (some vs) l = refl
-
-  ended-looks : (x : Outcome) → endedReply n F x out .figures .looks ≡ looksOf x
-  ended-looks (found ps l) = refl
-  ended-looks (failed l) = bordered-looks (borderedList n F) l
-
-  beside-bordered : (v : Option (List ℕ)) (l k : ℕ) → l ≤ k → Beside (borderedReply n v k out) (borderedReply n v l out)
-  beside-bordered none l k u = (λ z. z, (λ h. (refl, (refl, refl)), u))
-  beside-bordered (some vs) l k u = (λ z. z, (λ h. (refl, (refl, refl)), u))
-
-  beside-ended : (E : Form 𝕎) (m : ℕ) (x : Outcome) (M : List Entry) (y : Outcome) → Follows E m x M y → Beside (endedReply n F y out) (endedReply n F x out)
+  beside-ended : (E : Form 𝕎) (m : ℕ) (x : Outcome) (M : List Entry) (y : Outcome) → Follows E m x M y
+      → Beside (searchedReply n F (ended y) out) (searchedReply n F (ended x) out)
   beside-ended E m (found ps l) M (found qs k) f =
-      let same = ap (λ (t : List ℕ). map (λ p. times p (basis n F)) t) (f .0) in
+      let same = ap (timesBasis n F) (f .0) in
       (λ z. z, (λ h. (refl, (ap length same, ap (λ (vs : List ℕ). laid n vs out) same)), f .1))
   beside-ended E m (found ps l) M (failed k) f = absurd (f .0)
   beside-ended E m (failed l) M (found qs k) f = absurd (f .0)
-  beside-ended E m (failed l) M (failed k) f = beside-bordered (borderedList n F) l k (f .1)
+  beside-ended E m (failed l) M (failed k) f = (λ z. z, (λ h. (refl, (refl, refl)), f .1))
 
   -- the budget is laid over both
-  beside-budgeted : (budget : ℕ) (x y : Outcome) → looksOf x ≤ looksOf y → Beside (endedReply n F y out) (endedReply n F x out)
+  beside-budgeted : (budget : ℕ) (x y : Outcome) → looksOf x ≤ looksOf y → Beside (searchedReply n F (ended y) out) (searchedReply n F (ended x) out)
       → Beside (searchedReply n F (budgeted budget y) out) (searchedReply n F (budgeted budget x) out)
   beside-budgeted budget x y u h =
       subst₂ (λ (v w : Verdict). Beside (searchedReply n F w out) (searchedReply n F v out)) (sym (budgeted-is budget x)) (sym (budgeted-is budget y))
@@ -120,7 +104,7 @@ module _ (n : ℕ) (F out : List ℕ) where
       go : (b c : Bool) → leb (looksOf x) budget ≡ b → leb (looksOf y) budget ≡ c
           → Beside (searchedReply n F (endedIf c y budget) out) (searchedReply n F (endedIf b x budget) out)
       go true true e g = h
-      go true false e g = (λ z. refl, (λ k. absurd (k refl), omega (arith, ended-looks x, leb-true (looksOf x) budget e)))
+      go true false e g = (λ z. refl, (λ k. absurd (k refl), omega (arith, leb-true (looksOf x) budget e)))
       go false true e g = absurd (omega (arith, leb-false (looksOf x) budget e, leb-true (looksOf y) budget g))
       go false false e g = beside-itself (refused 6 budget out)
 
@@ -188,21 +172,19 @@ module _ (n : ℕ) (rows : List ℕ) (budget : ℕ) (memory out : List ℕ) wher
 
   abbrev pub PromisedWith : List ℕ → Figures → Type 0
   PromisedWith left t =
-      Replays n rows left t × (Shortest n rows t × (ExactWith (roomIn memory) n rows budget out t × AsWithout (minimalReply n rows budget out) left t))
-
-  searched-least : asked ≡ 0 → Least n matrix (mine .outcome)
-  searched-least e = passed-least n rows budget out e (mine .outcome) (λ size bounded symp. remembered-least n matrix size bounded symp (roomIn memory))
+      Replays n rows left t × (Shortest n rows t × (ExactWith (roomIn memory) n rows budget out t × (AsWithout (minimalReply n rows budget out) left t × EveryLayer n rows t)))
 
   pub remembering-shortest : Holds PromisedWith (rememberingReply n rows budget memory out)
   unfolding rememberingReply
   remembering-shortest =
-      let h = call-shortest n rows budget out (mine .outcome) searched-least in
-      (h .0, (h .1 .0, (h .1 .1, as-without)))
+      let h = call-shortest n rows budget out (mine .outcome) (remembered-right n matrix (roomIn memory)) in
+      (h .0, (h .1 .0, (h .1 .1 .0, (as-without, h .1 .1 .1))))
 
-  -- a refusal lists nothing
-  pub remembering-left : (rememberingReply n rows budget memory out .figures .number ≡ 0 → ⊥) → rememberingReply n rows budget memory out .figures .count ≡ 0
+  -- a refusal as a caller reads it
+  pub remembering-told : (k : ℕ) → rememberingReply n rows budget memory out .figures .number ≡ suc k
+      → rememberingReply n rows budget memory out .figures ≡ refused (suc k) (cond (eqb (suc k) 6) budget 0) out .figures
   unfolding rememberingReply
-  remembering-left z = reply-left n rows budget out (mine .outcome) searched-least z .1
+  remembering-told = reply-refused n rows budget out (mine .outcome) (remembered-right n matrix (roomIn memory))
 
   -- the memory on a refusal by 1 to 5, and else
   memory-untouched : (k : ℕ) → asked ≡ suc k → memory ≡ memoryLeft n rows budget memory out
@@ -223,13 +205,14 @@ module _ (n : ℕ) (rows : List ℕ) (budget : ℕ) (memory out : List ℕ) wher
       × (Shortest n rows t
       × (ExactWith (roomIn memory) n rows budget out t
       × (AsWithout (minimalReply n rows budget out) left t
-      × Plainly (minimalReply n rows budget out) memory after left t))))))
+      × (EveryLayer n rows t
+      × Plainly (minimalReply n rows budget out) memory after left t)))))))
 
   in-order : (after left : List ℕ) (t : Figures) → after ≡ memoryLeft n rows budget memory out → Meets PromisedWith (rememberingReply n rows budget memory out) left t
       → MeetsWith after left t
   in-order after left t e m =
       let p = m .1 .1 in
-      (m .0, (m .1 .0, (e, (p .0, (p .1 .0, (p .1 .1 .0, (p .1 .1 .1, plainly-met left after t (m .0) (m .1 .0) e)))))))
+      (m .0, (m .1 .0, (e, (p .0, (p .1 .0, (p .1 .1 .0, (p .1 .1 .1 .0, (p .1 .1 .1 .1, plainly-met left after t (m .0) (m .1 .0) e))))))))
 
   -- one of the questions 1 to 5
   pub remembering-refused : (k : ℕ) (t : Figures) → listQuestions n (rowsOfWords n rows) (n + n + 1) (length out) ≡ suc k → t ≡ refused (suc k) 0 out .figures

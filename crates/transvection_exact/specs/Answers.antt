@@ -2,14 +2,17 @@
 -- Assumes nothing.
 use mathlib.Core.Path.{_≡_}
 use mathlib.Core.List.{List}
-use Prim.Native.Nat.{ℕ, _+_, _≤_, _<_}
+use mathlib.Core.Logic.{_⊎_}
+use Prim.Native.Nat.{ℕ, suc, _+_, _≤_, _<_}
 use lib.ListN.{length}
 use Rattle.blocks.specs.Words.{rowsOfWords}
 use Rattle.questions.specs.declared.Figures.{Figures}
-use Rattle.questions.specs.Replies.{Reply, listQuestions}
+use Rattle.questions.specs.Replies.{Reply, actionQuestions, listQuestions}
+use Rattle.residue.specs.Residue.{basis}
+use Rattle.triangular.specs.Bases.{TriangularBasis}
 use Rattle.triangular.specs.Search.{looksOf}
 use Rattle.transvection_exact.specs.declared.Minimal.{Minimal}
-use Rattle.transvection_exact.specs.declared.Minimal.the-variants.{Listed, TooManyQubits, WrongRowCount, RowTooWide, NotSymplectic, OutputTooShort, Spent, NotBordered}
+use Rattle.transvection_exact.specs.declared.Minimal.the-variants.{Listed, TooManyQubits, WrongRowCount, RowTooWide, NotSymplectic, OutputTooShort, Spent}
 use Rattle.transvection_exact.specs.NoneShorter.{NoneShorter}
 use Rattle.memory.specs.Entries.{entrySize}
 use Rattle.transvection_exact.specs.Minimal.{coreSearch, coreSearchWith}
@@ -23,11 +26,24 @@ figuresOf RowTooWide = record { number = 3; count = 0; looks = 0 }
 figuresOf NotSymplectic = record { number = 4; count = 0; looks = 0 }
 figuresOf OutputTooShort = record { number = 5; count = 0; looks = 0 }
 figuresOf (Spent looks) = record { number = 6; count = 0; looks = looks }
-figuresOf (NotBordered looks) = record { number = 7; count = 0; looks = looks }
 
 -- where the call answers, no list of vectors on 2n columns whose product is the action has fewer entries. Open to users, as `Exact` is
 abbrev pub Shortest : ℕ → List ℕ → Figures → Type 0
 Shortest n rows t = t .number ≡ 0 → NoneShorter n (rowsOfWords n rows) (t .count)
+
+-- r where the core has a triangular basis, and r + 1 where it has none
+abbrev pub RankOrOneMore : ℕ → List ℕ → ℕ → Type 0
+RankOrOneMore n F count =
+    let r = length (basis n F) in
+    (TriangularBasis n F × (count ≡ r)) ⊎ ((TriangularBasis n F → ⊥) × (count ≡ suc r))
+
+-- every layer gets its list: an action that passes questions 1 to 4 is refused only for its buffers (5) or its budget (6), and the count
+-- of an answer is r or r + 1
+abbrev pub EveryLayer : ℕ → List ℕ → Figures → Type 0
+EveryLayer n rows t =
+    let F = rowsOfWords n rows in
+    (actionQuestions n F ≡ 0 → (t .number ≡ 0) ⊎ ((t .number ≡ 5) ⊎ (t .number ≡ 6)))
+    × (t .number ≡ 0 → RankOrOneMore n F (t .count))
 
 -- questions 1 to 5, with 2n + 1 output words, are passed, and a search that takes so many looks takes one beyond the budget
 abbrev pub Beyond : ℕ → ℕ → List ℕ → ℕ → List ℕ → Type 0

@@ -1,38 +1,33 @@
--- The minimal list (`minimal_decomposition`): the search's list of r vectors, else the bordered list of r + 1. Also with a lent memory (document 02, item 6).
+-- The minimal list (`minimal_decomposition`): the search's list of r vectors, else the bordered list of r + 1, which needs no check
+-- (document 02, item 7). Also with a lent memory (item 6).
 -- Assumes nothing.
-use mathlib.Core.List.{List, [], map}
-use mathlib.Core.Option.{Option, none, some}
+use mathlib.Core.List.{List, []}
 use Prim.Native.Nat.{ℕ, zero, suc, _+_}
 use lib.ListN.{length}
-use Rattle.blocks.specs.Matrices.{times, units}
+use Rattle.blocks.specs.Matrices.{units}
 use Rattle.blocks.specs.Words.{rowsOfWords, over}
 use Rattle.questions.specs.Replies.{Reply, refused, listed, unlessRefused, listQuestions}
 use Rattle.residue.specs.Residue.{basis, core, form}
-use Rattle.triangular.specs.Search.{Outcome, found, failed, search, Verdict, ended, spent, budgeted}
+use Rattle.triangular.specs.Search.{Outcome, found, failed, search, looksOf, Verdict, ended, spent, budgeted}
 use Rattle.triangular.specs.Memory.{Remembered, searchWith, knownWithin}
 use Rattle.memory.specs.Entries.{memoryWords, roomIn}
-use Rattle.bordered.specs.Checks.{borderedList}
+use Rattle.family.specs.Checks.{timesBasis, borderedList}
 
 -- the search on the core of an action, with no budget, begun from unit vectors
 unfoldable pub coreSearch : ℕ → List ℕ → Outcome
 coreSearch n F = let r = length (basis n F) in search (form (core n F)) r (units r) 0
 
--- 7: does the bordered candidate pass?
-abbrev pub borderedReply : ℕ → Option (List ℕ) → ℕ → List ℕ → Reply
-borderedReply n none looks out = refused 7 looks out
-borderedReply n (some vs) looks out = listed n vs looks out
-
 -- found: each search vector times V, in order; not found: the bordered list
-abbrev pub endedReply : ℕ → List ℕ → Outcome → List ℕ → Reply
-endedReply n F (found ps looks) out = listed n (map (λ p. times p (basis n F)) ps) looks out
-endedReply n F (failed looks) out = borderedReply n (borderedList n F) looks out
+abbrev pub listAfter : ℕ → List ℕ → Outcome → List ℕ
+listAfter n F (found ps looks) = timesBasis n F ps
+listAfter n F (failed looks) = borderedList n F
 
 -- 6: does the search end without a look beyond the budget?
 abbrev pub searchedReply : ℕ → List ℕ → Verdict → List ℕ → Reply
-searchedReply n F (ended outcome) out = endedReply n F outcome out
+searchedReply n F (ended outcome) out = listed n (listAfter n F outcome) (looksOf outcome) out
 searchedReply n F (spent looks) out = refused 6 looks out
 
--- questions 1 to 5, with 2n + 1 output words, then 6 and 7
+-- questions 1 to 5, with 2n + 1 output words, then 6
 unfoldable pub minimalReply : ℕ → List ℕ → ℕ → List ℕ → Reply
 minimalReply n words budget out =
     let F = rowsOfWords n words in
@@ -44,7 +39,7 @@ minimalReply n words budget out =
 unfoldable pub coreSearchWith : ℕ → List ℕ → ℕ → Remembered
 coreSearchWith n F room = let r = length (basis n F) in searchWith (form (core n F)) r room r (units r) 0 []
 
--- the same questions, 6 and 7 of this search
+-- the same questions, 6 of this search
 unfoldable pub rememberingReply : ℕ → List ℕ → ℕ → List ℕ → List ℕ → Reply
 rememberingReply n words budget memory out =
     let F = rowsOfWords n words in

@@ -1,8 +1,6 @@
 // The minimal list: as few turns as any list of the action has, laid into lent words.
 // In the source: transvection_exact.rs, `minimal_decomposition`, `clifford_to_transvections_minimal`.
 use actions::Action;
-use binar::WIDTH;
-use bordered::Candidate;
 use family::MOST_VECTORS;
 use questions::Figures;
 use questions::Question;
@@ -12,13 +10,13 @@ ghost use mathlib.Core.Path.{_≡_};
 ghost use Rattle.blocks.specs.Matrices.{matmul};
 ghost use Rattle.blocks.specs.Words.{rowsIn, over};
 ghost use Rattle.actions.specs.Actions.{qubits, matrix};
-ghost use Rattle.questions.specs.Replies.{listed, Replays};
+ghost use Rattle.questions.specs.Replies.{actionQuestions, listed, Replays};
 ghost use Rattle.residue.specs.Residue.{basis as basisOf, core as coreOf};
 ghost use Rattle.triangular.specs.Search.{budgeted};
 ghost use Rattle.triangular.specs.Memory.{knownWithin};
 ghost use Rattle.memory.specs.Entries.{memoryWords, roomIn};
 ghost use Rattle.transvection_exact.specs.Minimal.{searchedReply, minimalReply, coreSearchWith, rememberingReply, memoryLeft};
-ghost use Rattle.transvection_exact.specs.Answers.{figuresOf, Shortest, Exact, ExactWith, AsWithout, Plainly};
+ghost use Rattle.transvection_exact.specs.Answers.{figuresOf, Shortest, Exact, ExactWith, AsWithout, EveryLayer, Plainly};
 
 // What the call answers: how many vectors it listed after how many looks, or the first question that is answered no.
 pub enum Minimal {
@@ -29,7 +27,6 @@ pub enum Minimal {
     NotSymplectic,
     OutputTooShort,
     Spent { looks: u64 },
-    NotBordered { looks: u64 },
 }
 
 // The number, the count and the looks that an answer stands for.
@@ -72,27 +69,10 @@ pub fn figures_of(r: Minimal) -> Figures
             count: 0,
             looks: looks,
         },
-        Minimal::NotBordered { looks } => Figures {
-            number: 7,
-            count: 0,
-            looks: looks,
-        },
     }
 }
 
-// The vectors of a list, of n qubits, laid into lent words.
-fn laid_out(n: u64, list: &[u64], looks: u64, out: &mut [u64]) -> Minimal
-    ensures answered { λ r. ⌜ figuresOf r ≡ listed n (rowsIn (now (list .entry))) looks (now (out .entry)) .figures ⌝ }
-    ensures left { λ r. ⌜ now (out .exit) ≡ listed n (rowsIn (now (list .entry))) looks (now (out .entry)) .words ⌝ }
-{
-    matrices::lay(n, list, out);
-    Minimal::Listed {
-        count: blocks::rows_in(list) as u64,
-        looks: looks,
-    }
-}
-
-// The draws of a search times the basis, laid into lent words.
+// Vectors of the core times the basis, laid into lent words.
 fn multiplied(n: u64, list: &[u64], basis: &[u64], looks: u64, out: &mut [u64]) -> Minimal
     ensures answered { λ r. ⌜ figuresOf r ≡ listed n (matmul (rowsIn (now (list .entry))) (rowsIn (now (basis .entry)))) looks (now (out .entry)) .figures ⌝ }
     ensures left { λ r. ⌜ now (out .exit) ≡ listed n (matmul (rowsIn (now (list .entry))) (rowsIn (now (basis .entry)))) looks (now (out .entry)) .words ⌝ }
@@ -104,7 +84,7 @@ fn multiplied(n: u64, list: &[u64], basis: &[u64], looks: u64, out: &mut [u64]) 
     }
 }
 
-// Questions 6 and 7, from the basis of the residue and the core: the list of the search, else the bordered list.
+// Question 6, from the basis of the residue and the core: the list of the search, else the bordered list.
 fn from_core(
     a: Action,
     basis: &[u64],
@@ -113,13 +93,14 @@ fn from_core(
     memory: &mut [u64],
     out: &mut [u64],
 ) -> Minimal
-    requires { ⌜ (rowsIn (now basis) ≡ basisOf (qubits a) (matrix a)) × (rowsIn (now core) ≡ coreOf (qubits a) (matrix a)) ⌝ }
+    requires { ⌜ (rowsIn (now basis) ≡ basisOf (qubits a) (matrix a)) × (rowsIn (now core) ≡ coreOf (qubits a) (matrix a))
+        × (actionQuestions (qubits a) (matrix a) ≡ 0) ⌝ }
     ensures answered { λ r. ⌜ figuresOf r ≡ searchedReply (qubits a) (matrix a) (budgeted budget (coreSearchWith (qubits a) (matrix a) (roomIn (now (memory .entry))) .outcome)) (now (out .entry)) .figures ⌝ }
     ensures left { λ r. ⌜ now (out .exit) ≡ searchedReply (qubits a) (matrix a) (budgeted budget (coreSearchWith (qubits a) (matrix a) (roomIn (now (memory .entry))) .outcome)) (now (out .entry)) .words ⌝ }
     ensures remembered { λ r. ⌜ now (memory .exit) ≡ over (memoryWords (knownWithin budget (coreSearchWith (qubits a) (matrix a) (roomIn (now (memory .entry))) .memory))) (now (memory .entry)) ⌝ }
 {
     let n = symplectic::capped(a.n) as u64;
-    let mut list = [0u64; WIDTH];
+    let mut list = [0u64; MOST_VECTORS];
     let o = search::congruence_triangularize(core, budget, memory, &mut list);
     let looks = o.looks;
     let ending = o.ending;
@@ -133,20 +114,14 @@ fn from_core(
         }
         Ending::Failed => {}
     }
-    let mut bordered = [0u64; MOST_VECTORS];
-    let candidate = bordered::bordered_list(a, basis, core, &mut bordered);
-    match candidate {
-        Candidate::Rejected => {
-            return Minimal::NotBordered { looks: looks };
-        }
-        Candidate::Passed => {}
-    }
-    let to = blocks::start(&bordered, blocks::rows_in(core) + 1);
-    laid_out(n, &bordered[..to], looks, out)
+    family::bordered_family(core, &mut list);
+    let to = blocks::start(&list, blocks::rows_in(core) + 1);
+    multiplied(n, &list[..to], basis, looks, out)
 }
 
-// Questions 6 and 7 of an action.
+// Question 6 of an action.
 fn searched(a: Action, budget: u64, memory: &mut [u64], out: &mut [u64]) -> Minimal
+    requires { ⌜ actionQuestions (qubits a) (matrix a) ≡ 0 ⌝ }
     ensures answered { λ r. ⌜ figuresOf r ≡ searchedReply (qubits a) (matrix a) (budgeted budget (coreSearchWith (qubits a) (matrix a) (roomIn (now (memory .entry))) .outcome)) (now (out .entry)) .figures ⌝ }
     ensures left { λ r. ⌜ now (out .exit) ≡ searchedReply (qubits a) (matrix a) (budgeted budget (coreSearchWith (qubits a) (matrix a) (roomIn (now (memory .entry))) .outcome)) (now (out .entry)) .words ⌝ }
     ensures remembered { λ r. ⌜ now (memory .exit) ≡ over (memoryWords (knownWithin budget (coreSearchWith (qubits a) (matrix a) (roomIn (now (memory .entry))) .memory))) (now (memory .entry)) ⌝ }
@@ -175,6 +150,7 @@ pub fn clifford_to_transvections_minimal_remembering(
     ensures shortest { λ r. ⌜ Shortest n (now (rows .entry)) (figuresOf r) ⌝ }
     ensures exact { λ r. ⌜ ExactWith (roomIn (now (memory .entry))) n (now (rows .entry)) budget (now (out .entry)) (figuresOf r) ⌝ }
     ensures as_without { λ r. ⌜ AsWithout (minimalReply n (now (rows .entry)) budget (now (out .entry))) (now (out .exit)) (figuresOf r) ⌝ }
+    ensures every_layer { λ r. ⌜ EveryLayer n (now (rows .entry)) (figuresOf r) ⌝ }
     ensures plainly { λ r. ⌜ Plainly (minimalReply n (now (rows .entry)) budget (now (out .entry))) (now (memory .entry)) (now (memory .exit)) (now (out .exit)) (figuresOf r) ⌝ }
 {
     let question = questions::action_questions(n, rows);
@@ -212,6 +188,7 @@ pub fn clifford_to_transvections_minimal(
     ensures replays { λ r. ⌜ Replays n (now (rows .entry)) (now (out .exit)) (figuresOf r) ⌝ }
     ensures shortest { λ r. ⌜ Shortest n (now (rows .entry)) (figuresOf r) ⌝ }
     ensures exact { λ r. ⌜ Exact n (now (rows .entry)) budget (now (out .entry)) (figuresOf r) ⌝ }
+    ensures every_layer { λ r. ⌜ EveryLayer n (now (rows .entry)) (figuresOf r) ⌝ }
 {
     let mut none = [0u64; 0];
     clifford_to_transvections_minimal_remembering(n, rows, budget, &mut none, out)

@@ -9,3 +9,4 @@ pub mod Verdicts
 pub mod Cores
 pub mod Remembers
 pub mod Narrow
+pub mod Bases

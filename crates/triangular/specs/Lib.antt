@@ -2,3 +2,4 @@ pub mod Spaces
 pub mod Search
 pub mod Readings
 pub mod Memory
+pub mod Bases

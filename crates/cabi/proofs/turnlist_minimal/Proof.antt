@@ -1,11 +1,11 @@
 -- `turnlist_minimal` answers as `clifford_to_transvections_minimal`, and leaves a refused call's numbers as they were, by `lent-drawn`.
 -- Assumes nothing.
-use mathlib.Core.Path.{sym, ap, _∙_}
-use Rattle.questions.specs.declared.Figures.{Figures}
+use mathlib.Core.Path.{_∙_}
 use Rattle.transvection_exact.specs.Answers.{figuresOf}
 use Rattle.transvection_exact.specs.Minimal.{minimalReply}
 use Rattle.transvection_exact.proofs.Answered.{Promised}
-use Rattle.cabi.proofs.Lent.{lent-drawn, promised-refused}
+use Rattle.transvection_exact.proofs.Replies.{minimal-refused}
+use Rattle.cabi.proofs.Lent.{lent-drawn}
 use borrow.Author.Needs.{needs}
 use Rattle.cabi.proofs.turnlist_minimal.Statement.{statement}
 use Rattle.cabi.proofs.turnlist_minimal.Tie as tie
@@ -31,8 +31,10 @@ returns c =
     let answer = c .before .before .before .before .before .before .before .clifford-to-transvections-minimal in
     let figures = c .before .before .before .before .figures-of in
     let counted = c .before .before .tell in
-    lent-drawn (Promised (s .n) (s .rows .now) (s .budget) (s .out .now)) (s .budget) (minimalReply (s .n) (s .rows .now) (s .budget) (s .out .now)) (answer .last .1 .1 .1 .0) (figures .result) (figuresOf (answer .result)) (figures .ensures) (s .count .now) (counted .last .1 .1 .0) (counted .ensures) (s .looks .now) (c .tell2 .last .1 .1 .0) (c .tell2 .ensures)
-    (λ k e. promised-refused (s .n) (s .rows .now) (s .budget) (s .out .now) (answer .last .1 .1 .1 .0) k (figuresOf (answer .result)) (sym (ap (λ (u : Figures). u .number) (figures .ensures)) ∙ e) (answer .ensures .1 .1)) (answer .ensures)
+    let told = figures .ensures ∙ answer .ensures .0 in
+    lent-drawn (s .budget) (minimalReply (s .n) (s .rows .now) (s .budget) (s .out .now)) (minimal-refused (s .n) (s .rows .now) (s .budget) (s .out .now)) (figures .result) told
+    (s .count .now) (counted .last .1 .1 .0) (counted .ensures) (s .looks .now) (c .tell2 .last .1 .1 .0) (c .tell2 .ensures)
+    (Promised (s .n) (s .rows .now) (s .budget) (s .out .now)) (answer .last .1 .1 .1 .0) (figuresOf (answer .result)) (figures .ensures) (answer .ensures)
 
 pub turnlist-minimal-spec : {M : Type 1} → statement M
 turnlist-minimal-spec =

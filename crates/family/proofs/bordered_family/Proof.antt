@@ -1,7 +1,9 @@
 -- `bordered_family` peels the space of all rows as wide as the core, whose form rows are the core, and puts what was made over the list.
 -- Assumes nothing.
-use mathlib.Core.Path.{_≡_, sym, ap, _∙_}
-use mathlib.Core.List.{List}
+use mathlib.Core.Path.{_≡_, refl, sym, ap, _∙_}
+use mathlib.Core.Bool.{Bool}
+use mathlib.Core.List.{List, []}
+use mathlib.Core.Option.{Option, none, some, Option·getD}
 use Prim.Native.Nat.{ℕ, _+_, _/_, min}
 use lib.ListN.{length, take, replicate, length-take}
 use lib.Seq.{length-take-le}
@@ -12,13 +14,15 @@ use Rattle.blocks.proofs.Overs.{over-length, over-nil}
 use Rattle.blocks.proofs.Units.{units-length, matmul-units}
 use Rattle.blocks.proofs.Values.{rows-count, take-counted}
 use Rattle.residue.specs.Residue.{form}
+use Rattle.symplectic.specs.Picks.{mapSome}
 use Rattle.triangular.specs.Readings.{coreIn}
 use Rattle.triangular.proofs.Cores.{core-in}
+use Rattle.family.specs.declared.Construction.{Construction}
 use Rattle.family.specs.declared.Construction.the-variants.{Made, Stuck}
-use Rattle.family.specs.Family.{borderedFamily, coreFamily}
-use Rattle.family.specs.Readings.{mostVectors, familyOf}
+use Rattle.family.specs.Family.{borderedFamily, coreFamily, vectors, vectorsOf}
+use Rattle.family.specs.Readings.{mostVectors}
+use Rattle.family.specs.inner.Parts.{ifMade}
 use Rattle.family.proofs.Behind.{over-all}
-use Rattle.family.proofs.Marked.{vectors-made, vectors-stuck, family-kept}
 use native.Mathlib.Omega.{arith}
 use borrow.Author.Needs.{needs}
 use Rattle.family.proofs.bordered_family.Statement.{statement}
@@ -72,7 +76,7 @@ peel-requires c κs =
 
 -- the family of the core, in the words that it was made in
 made : (c : tie.After-peel) → let d = c .before .before .before .before .before .before .before .before .before .lesser .result in let core = c .before .before .before .before .before .before .before .before .before .before .before .before .before .args .core .now in
-    familyOf (c .peel .result) (take (d + 1) (rowsIn (c .peel .last .1 .1 .1 .0))) ≡ coreFamily (coreIn core)
+    ifMade (c .peel .result) (take (d + 1) (rowsIn (c .peel .last .1 .1 .1 .0))) ≡ mapSome vectors (coreFamily (coreIn core))
 made c =
     let core = c .before .before .before .before .before .before .before .before .before .before .before .before .before .args .core .now in
     let rows = rowsIn core in
@@ -84,7 +88,16 @@ made c =
     let basis = over-all (units (d .result)) (rowsIn (replicate width 0)) _ (d .result) (put .0) (units-length (d .result)) (omega (arith, many, d .ensures)) in
     let forms = over-all (take (d .result) rows) (rowsIn (replicate width 0)) _ (d .result) (put .1) (length-take-le (d .result) rows (omega (arith, d .ensures, count))) (omega (arith, many, d .ensures)) in
     c .peel .ensures E (ap (λ (l : List ℕ). matmul l E) (basis ∙ ap units (is .1)) ∙ matmul-units E ∙ sym (forms ∙ is .0))
-    ∙ ap (borderedFamily (form E) (d .result)) basis ∙ ap (λ (n : ℕ). borderedFamily (form E) n (units n)) (is .1)
+    ∙ ap (λ (l : List ℕ). mapSome vectors (borderedFamily (form E) (d .result) l)) basis ∙ ap (λ (n : ℕ). mapSome vectors (borderedFamily (form E) n (units n))) (is .1)
+
+-- its vectors, by whether it was made
+left : (v : Option (List (ℕ × Bool))) (vs : List ℕ) (c r : Construction) → ifMade c vs ≡ mapSome vectors v → c ≡ r → vectorsOf v ≡ Option·getD (ifMade r vs) []
+unfolding vectorsOf
+left v vs c r is e = by v ∙ ap (λ (w : Option (List ℕ)). Option·getD w []) (sym is) ∙ ap (λ (k : Construction). Option·getD (ifMade k vs) []) e
+  where
+    by : (v : Option (List (ℕ × Bool))) → vectorsOf v ≡ Option·getD (mapSome vectors v) []
+    by none = refl
+    by (some l) = refl
 
 enum-told : tie.Need-enum-told
 enum-told c = search needs
@@ -98,6 +111,9 @@ slice-aggregate-put-front c = search needs
 put-front-requires : tie.Need-put-front-requires
 put-front-requires c κs = search needs
 
+enum-told-2 : tie.Need-enum-told-2
+enum-told-2 c = search needs
+
 same-length : tie.Need-same-length
 same-length c = search needs
 
@@ -105,25 +121,15 @@ returns : tie.Need-returns
 returns c =
     let at = c .before .before .before .before .before .before .before .before .before .before in
     let s = c .before .before .before .before .before .before .before .before .before .before .before .before .before .before .before .before .before .before .before .before .before .before .before .args in
-    let v = coreFamily (coreIn (s .core .now)) in
-    let f = at .peel .result in
-    let vs = take (c .before .before .before .before .before .before .before .before .before .before .before .before .before .before .before .before .before .before .before .lesser .result + 1) (rowsIn (at .peel .last .1 .1 .1 .0)) in
-    let told : f .construction ≡ Made = search (needs, c .before .before .before .before .before .enum-told .given) in
-    (family-kept f vs v (made at), c .before .before .put-front .ensures ∙ ap (λ (l : List ℕ). over l (rowsIn (s .list .now))) (sym (vectors-made f vs v (made at) told)))
-
-enum-told-2 : tie.Need-enum-told-2
-enum-told-2 c = search needs
+    let told : at .peel .result ≡ Made = search (needs, c .before .before .before .before .before .enum-told .given) in
+    c .before .before .put-front .ensures ∙ ap (λ (l : List ℕ). over l (rowsIn (s .list .now))) (sym (left _ _ _ Made (made at) told))
 
 returns-2 : tie.Need-returns-2
 returns-2 c =
     let at = c .before .before .before .before .before in
-    let s = c .before .before .before .before .before .before .before .before .before .before .before .before .before .before .before .before .before .before .args in
-    let v = coreFamily (coreIn (s .core .now)) in
-    let f = at .peel .result in
-    let vs = take (c .before .before .before .before .before .before .before .before .before .before .before .before .before .before .lesser .result + 1) (rowsIn (at .peel .last .1 .1 .1 .0)) in
-    let told : f .construction ≡ Stuck = search (needs, c .enum-told2 .given) in
-    let out = rowsIn (s .list .now) in
-    (family-kept f vs v (made at), sym (ap (λ (l : List ℕ). over l out) (vectors-stuck f vs v (made at) told) ∙ over-nil out))
+    let out = rowsIn (c .before .before .before .before .before .before .before .before .before .before .before .before .before .before .before .before .before .before .args .list .now) in
+    let told : at .peel .result ≡ Stuck = search (needs, c .enum-told2 .given) in
+    sym (ap (λ (l : List ℕ). over l out) (left _ _ _ Stuck (made at) told) ∙ over-nil out)
 
 pub bordered-family-spec : {M : Type 1} → statement M
 bordered-family-spec =
@@ -142,7 +148,7 @@ bordered-family-spec =
     add-put-front
     slice-aggregate-put-front
     put-front-requires
+    enum-told-2
     same-length
     returns
-    enum-told-2
     returns-2)

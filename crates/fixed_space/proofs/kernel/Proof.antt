@@ -2,8 +2,9 @@
 -- Assumes nothing.
 use mathlib.Core.Path.{refl}
 use mathlib.Core.List.{List}
-use Prim.Native.Nat.{ℕ, _≤_}
+use Prim.Native.Nat.{ℕ, _≤_, min}
 use lib.ListN.{length, replicate, length-replicate}
+use Rattle.binar.specs.Rows.{width}
 use Rattle.blocks.specs.Words.{rowsIn}
 use Rattle.symplectic.specs.Sizes.{mostRows}
 use Rattle.reduction.proofs.InPlace.{reduced-whole}
@@ -30,11 +31,12 @@ returns c =
     let start = c .before .before .before .before .before .before .before .before .before .before .before in
     let s = start .args in
     let M = rowsIn (s .rows .now) in
+    let T = rowsIn (s .transform .now) in
     let r = c .before .before .before .before .before .row-reduce-with-transform in
     let pivots : List ℕ = replicate mostRows 0 in
-    let few : length M ≤ length pivots = omega (arith, start .pre .1, length-replicate {A = ℕ} mostRows 0) in
-    kernel-end (s .m) (r .result) M _ _ _ (start .pre .1)
-    (reduced-whole (s .m) M (rowsIn (s .transform .now)) pivots (omega (arith, start .pre .0)) few (r .result) _ _ (start .pre .0) (r .ensures .0) (r .ensures .1 .0) (r .ensures .1 .1 .0))
+    let fits : length M ≤ min width (min (length pivots) (length T)) = omega (arith, start .pre .0, start .pre .1, length-replicate {A = ℕ} mostRows 0) in
+    kernel-end (s .m) (r .result) M _ _ _
+    (reduced-whole (s .m) M T pivots fits (r .result) _ _ (start .pre .0) (r .ensures .0) (r .ensures .1 .0) (r .ensures .1 .1 .0))
 
 pub kernel-spec : {M : Type 1} → statement M
 kernel-spec =

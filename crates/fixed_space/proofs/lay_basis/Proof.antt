@@ -2,8 +2,9 @@
 -- Assumes nothing.
 use mathlib.Core.Path.{refl, ap, _∙_}
 use mathlib.Core.List.{List}
-use Prim.Native.Nat.{ℕ, _≤_}
+use Prim.Native.Nat.{ℕ, _≤_, min}
 use lib.ListN.{length, replicate, length-replicate}
+use Rattle.binar.specs.Rows.{width}
 use Rattle.blocks.specs.Words.{rowsIn, laid}
 use Rattle.blocks.proofs.Lent.{lent-front}
 use Rattle.symplectic.specs.Sizes.{mostRows}
@@ -52,9 +53,9 @@ returns c =
     let r = c .before .before .before .before .before .before .before .before .before .before .before .before .row-reduce-with-transform in
     let to = c .before .before .before .before .before .start in
     let pivots : List ℕ = replicate mostRows 0 in
-    let few : length M ≤ length pivots = omega (arith, start .pre .1, length-replicate {A = ℕ} mostRows 0) in
-    let front = lent-front (r .result) (to .result) (r .last .1 .0) (to .ensures) ∙ basis-end (s .m) (r .result) M T pivots (start .pre .0) few (r .ensures .0) _ (r .ensures .1 .0) in (
-      basis-count (s .m) (r .result) M T pivots (start .pre .0) few (r .ensures .0),
+    let fits : length M ≤ min width (min (length pivots) (length T)) = omega (arith, start .pre .0, start .pre .1, length-replicate {A = ℕ} mostRows 0) in
+    let front = lent-front (r .result) (to .result) (r .last .1 .0) (to .ensures) ∙ basis-end (s .m) (r .result) M T pivots fits (r .ensures .0) _ (r .ensures .1 .0) in (
+      basis-count (s .m) (r .result) M T pivots fits (r .ensures .0),
       c .before .before .lay .ensures ∙ ap (λ (l : List ℕ). laid (s .n) l (s .out .now)) front,
     )
 

@@ -1,31 +1,22 @@
 -- `put_units` puts the unit rows one by one, by `units-at`.
 -- Assumes nothing.
 use mathlib.Core.Path.{_≡_, refl, sym, ap, _∙_}
-use mathlib.Core.List.{List, _++_, map}
-use Prim.Native.Nat.{ℕ, _-_, _%_, _≤_, _<_}
-use lib.ListN.{length, take, drop, length-map}
-use Rattle.binar.specs.Rows.{rowBound}
-use Rattle.binar.proofs.Widths.{unit-kept}
+use mathlib.Core.List.{_++_}
+use Prim.Native.Nat.{_-_, _≤_, _<_}
+use lib.ListN.{length, take, drop}
+use Rattle.binar.proofs.Ones.{unit-is}
 use Rattle.blocks.specs.Matrices.{units}
 use Rattle.blocks.specs.Words.{rowsIn}
 use Rattle.blocks.proofs.Overs.{over-next, over-whole}
 use Rattle.blocks.proofs.Units.{units-length, units-at}
-use Rattle.blocks.proofs.Values.{map-get}
 use native.Mathlib.Omega.{arith}
 use borrow.Author.Needs.{needs}
 use Rattle.reduction.proofs.put_units.Statement.{statement}
 use Rattle.reduction.proofs.put_units.Tie as tie
 
--- the unit rows, as far as a row has columns
-abbrev kept : ℕ → List ℕ
-kept k = map (λ u. u % rowBound) (units k)
-
-kept-length : (k : ℕ) → length (kept k) ≡ k
-kept-length k = length-map (units k) (λ u. u % rowBound) ∙ units-length k
-
 abbrev Inv-loop : tie.InvT-loop
 Inv-loop t₀ k i₀ t i =
-    (i ≤ k) × (k ≡ length (rowsIn t₀)) × (length t ≡ length t₀) × (rowsIn t ≡ take i (kept k) ++ drop i (rowsIn t₀))
+    (i ≤ k) × (k ≡ length (rowsIn t₀)) × (length t ≡ length t₀) × (rowsIn t ≡ take i (units k) ++ drop i (rowsIn t₀))
 
 abbrev μ-loop : tie.MeasureT-loop
 μ-loop t₀ k i₀ t i = k - i
@@ -52,15 +43,14 @@ loop-again : tie.Need-loop-again Inv-loop μ-loop
 loop-again c =
     let at = c .before .before .before .before .before .before .loop in
     let k = c .before .before .before .before .before .before .before .rows-in .result in
-    let out = rowsIn (c .before .before .before .before .before .before .before .before .before .before .args .t .now) in
+    let start = c .before .before .before .before .before .before .before .before .before .before in
     let h : at .i < k = omega arith in (
       search needs,
       at .inv .1,
       search needs,
       c .before .before .put .ensures
-          ∙ over-next (kept k) out (rowsIn (at .t)) (at .i) _ (omega (arith, kept-length k)) (omega (arith, at .inv .1)) (at .inv .3)
-          (c .before .before .before .unit .ensures ∙ unit-kept (at .i)
-          ∙ sym (map-get (λ u. u % rowBound) (units k) (at .i) 0 0 (omega (arith, units-length k)) ∙ ap (λ u. u % rowBound) (units-at (at .i) k h))),
+          ∙ over-next (units k) (rowsIn (start .args .t .now)) (rowsIn (at .t)) (at .i) _ (omega (arith, units-length k)) (omega (arith, at .inv .1)) (at .inv .3)
+          (c .before .before .before .unit .ensures ∙ unit-is (at .i) (omega (arith, h, at .inv .1, start .pre)) ∙ sym (units-at (at .i) k h)),
     )
 
 same-length : tie.Need-same-length Inv-loop μ-loop
@@ -70,7 +60,7 @@ returns : tie.Need-returns Inv-loop μ-loop
 returns c =
     let at = c .before .loop in
     let k = c .before .before .rows-in .result in
-    at .inv .3 ∙ over-whole 0 (kept k) (rowsIn (c .before .before .before .before .before .args .t .now)) (at .i) (omega (arith, kept-length k)) (omega (arith, at .inv .1)) ∙ ap kept (at .inv .1)
+    at .inv .3 ∙ over-whole 0 (units k) (rowsIn (c .before .before .before .before .before .args .t .now)) (at .i) (omega (arith, units-length k)) (omega (arith, at .inv .1)) ∙ ap units (at .inv .1)
 
 pub put-units-spec : {M : Type 1} → statement M
 put-units-spec =

@@ -1,14 +1,11 @@
 -- `reduce` starts from the unit rows, by `begun`; what is left is the reduction, by `reduced-in`.
 -- Assumes nothing.
 use mathlib.Core.Path.{sym, ap, _∙_}
-use mathlib.Core.List.{map}
-use Prim.Native.Nat.{ℕ, _%_}
-use lib.ListN.{length, take, length-map}
-use Rattle.binar.specs.Rows.{rowBound}
+use lib.ListN.{length, take}
 use Rattle.blocks.specs.Matrices.{units}
 use Rattle.blocks.specs.Words.{rowsIn}
 use Rattle.blocks.proofs.Units.{units-length}
-use Rattle.reduction.proofs.Cut.{begun, reduced-in}
+use Rattle.reduction.proofs.Loops.{begun, reduced-in}
 use Rattle.blocks.proofs.Lent.{lent-same}
 use native.Mathlib.Omega.{arith}
 use borrow.Author.Needs.{needs}
@@ -22,7 +19,7 @@ by-columns-requires : tie.Need-by-columns-requires
 by-columns-requires c κs =
     let start = c .before .before .before .before .before .before .before .before .before .before in
     let k = length (rowsIn (start .args .t .now)) in
-    let size = ap length (c .before .before .before .before .before .put-units .ensures) ∙ length-map (units k) (λ u. u % rowBound) ∙ units-length k in
+    let size = ap length (c .before .before .before .before .before .put-units .ensures) ∙ units-length k in
     (start .pre .0 ∙ sym size, start .pre .1)
 
 same-length : tie.Need-same-length
@@ -44,7 +41,7 @@ returns c =
     let t = o .last .1 .1 .0 in
     let M = rowsIn (s .a .now) in
     let even = start .pre .0 in
-    let begin = put .ensures ∙ ap (λ (k : ℕ). map (λ u. u % rowBound) (units k)) (sym even) in
+    let begin = put .ensures ∙ ap units (sym even) in
     let long = lent-same a (s .a .now) (search needs) in
     let same = long ∙ even ∙ sym (lent-same t (s .t .now) (search needs)) in
     let all = o .ensures .2 ∙ begun (s .m) M (rowsIn (put .last .0)) begin in (

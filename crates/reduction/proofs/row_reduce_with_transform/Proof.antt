@@ -3,9 +3,9 @@
 -- Assumes nothing.
 use mathlib.Core.Path.{_≡_, sym, ap, _∙_}
 use mathlib.Core.List.{List, map}
-use Prim.Native.Nat.{ℕ, _%_, min}
+use Prim.Native.Nat.{ℕ, min}
 use lib.ListN.{length, take}
-use Rattle.binar.specs.Rows.{rowBound}
+use Rattle.binar.specs.Rows.{width}
 use Rattle.blocks.specs.Words.{rowsIn, over}
 use Rattle.blocks.proofs.Lent.{lent-front}
 use Rattle.symplectic.proofs.Work.{part-words, part-rows}
@@ -17,9 +17,9 @@ use borrow.Author.Needs.{needs}
 use Rattle.reduction.proofs.row_reduce_with_transform.Statement.{statement}
 use Rattle.reduction.proofs.row_reduce_with_transform.Tie as tie
 
--- as many rows as all three have
-least : (c : tie.After-lesser2) → let s = c .before .before .before .before .before .before .before .before .before .args in c .lesser2 .result ≡ min (length (s .pivots .now)) (min (length (rowsIn (s .a .now))) (length (rowsIn (s .t .now))))
-least c = omega (arith, c .lesser2 .ensures, c .before .lesser .ensures, c .before .before .rows-in2 .ensures, c .before .before .before .before .rows-in .ensures)
+-- as many rows as all three have, at most as many as a row has columns
+least : (c : tie.After-lesser3) → let s = c .before .before .before .before .before .before .before .before .before .before .args in c .lesser3 .result ≡ min width (min (length (s .pivots .now)) (min (length (rowsIn (s .a .now))) (length (rowsIn (s .t .now)))))
+least c = omega (arith, c .lesser3 .ensures, c .before .lesser2 .ensures, c .before .before .lesser .ensures, c .before .before .before .rows-in2 .ensures, c .before .before .before .before .before .rows-in .ensures)
 
 rows-in-requires : tie.Need-rows-in-requires
 rows-in-requires c κs = search needs
@@ -33,6 +33,9 @@ lesser-requires c κs = search needs
 lesser-requires-2 : tie.Need-lesser-requires-2
 lesser-requires-2 c κs = search needs
 
+lesser-requires-3 : tie.Need-lesser-requires-3
+lesser-requires-3 c κs = search needs
+
 start-requires : tie.Need-start-requires
 start-requires c κs = search needs
 
@@ -45,7 +48,7 @@ slice-relend-prefix-reduce c = search needs
 slice-aggregate-reduce : tie.Need-slice-aggregate-reduce
 slice-aggregate-reduce c =
     let to = c .before .before .before .start in
-    part-words (c .before .before .before .before .before .lesser2 .result) (to .result) (c .before .before .before .before .before .before .before .before .before .before .before .before .before .before .args .a .now) (to .ensures)
+    part-words (c .before .before .before .before .before .lesser3 .result) (to .result) (c .before .before .before .before .before .before .before .before .before .before .before .before .before .before .before .args .a .now) (to .ensures)
 
 slice-relend-prefix-reduce-2 : tie.Need-slice-relend-prefix-reduce-2
 slice-relend-prefix-reduce-2 c = search needs
@@ -53,16 +56,16 @@ slice-relend-prefix-reduce-2 c = search needs
 slice-aggregate-reduce-2 : tie.Need-slice-aggregate-reduce-2
 slice-aggregate-reduce-2 c =
     let until = c .before .before .start2 in
-    part-words (c .before .before .before .before .before .before .lesser2 .result) (until .result) (c .before .before .before .before .before .before .before .before .before .before .before .before .before .before .before .args .t .now) (until .ensures)
+    part-words (c .before .before .before .before .before .before .lesser3 .result) (until .result) (c .before .before .before .before .before .before .before .before .before .before .before .before .before .before .before .before .args .t .now) (until .ensures)
 
 reduce-requires : tie.Need-reduce-requires
 reduce-requires c κs =
-    let s = c .before .before .before .before .before .before .before .before .before .before .before .before .before .before .before .before .args in
-    let k = c .before .before .before .before .before .before .before .lesser2 .result in
+    let s = c .before .before .before .before .before .before .before .before .before .before .before .before .before .before .before .before .before .args in
+    let k = c .before .before .before .before .before .before .before .lesser3 .result in
     let e = least (c .before .before .before .before .before .before .before) in
     let sizeA = part-rows k (c .before .before .before .before .before .start .result) (s .a .now) (c .before .before .before .before .before .start .ensures) (omega (arith, e)) in
     let sizeT = part-rows k (c .before .before .before .start2 .result) (s .t .now) (c .before .before .before .start2 .ensures) (omega (arith, e)) in
-    (sizeA ∙ sym sizeT, omega (arith, sizeA, e))
+    (sizeA ∙ sym sizeT, omega (arith, sizeA, e), omega (arith, sizeA, e))
 
 same-length : tie.Need-same-length
 same-length c = search needs
@@ -75,11 +78,11 @@ same-length-3 c = search needs
 
 returns : tie.Need-returns
 returns c =
-    let s = c .before .before .before .before .before .before .before .before .before .before .before .before .before .before .before .before .before .before .before .before .before .before .before .args in
+    let s = c .before .before .before .before .before .before .before .before .before .before .before .before .before .before .before .before .before .before .before .before .before .before .before .before .args in
     let A = rowsIn (s .a .now) in
     let T = rowsIn (s .t .now) in
     let ps = s .pivots .now in
-    let k = c .before .before .before .before .before .before .before .before .before .before .before .before .before .before .lesser2 .result in
+    let k = c .before .before .before .before .before .before .before .before .before .before .before .before .before .before .lesser3 .result in
     let e = least (c .before .before .before .before .before .before .before .before .before .before .before .before .before .before) in
     let to = c .before .before .before .before .before .before .before .before .before .before .before .before .start in
     let until = c .before .before .before .before .before .before .before .before .before .before .start2 in
@@ -91,7 +94,7 @@ returns c =
     let backA = put-back k (to .result) (s .a .now) (to .ensures) (omega (arith, e)) (o .last .1 .0) (o .kept .1 .0) in
     let backT = put-back k (until .result) (s .t .now) (until .ensures) (omega (arith, e)) (o .last .1 .1 .0) (o .kept .1 .1 .0) in
     let reduced = backA ∙ ap (λ (l : List ℕ). over l A) (o .ensures .0 .1 ∙ ap (λ (l : List ℕ). map (λ x. x .0) (all l)) is) in
-    let transformed = backT ∙ ap (λ (l : List ℕ). over l T) (o .ensures .0 .2 ∙ ap (λ (l : List ℕ). map (λ x. x .1 % rowBound) (all l)) is) in
+    let transformed = backT ∙ ap (λ (l : List ℕ). over l T) (o .ensures .0 .2 ∙ ap (λ (l : List ℕ). map (λ x. x .1) (all l)) is) in
     let found = o .ensures .0 .3 ∙ ap (λ (l : List ℕ). rowReduceWithTransform (s .m) l .pivots) is in
     let promises = fitting-pivoted (s .m) A T ps (o .result) ranked (take (o .result) qs) _ found reduced in
     (ranked, (reduced, (transformed, (pivots-over (s .m) A T ps (o .result) ranked qs found (o .ensures .1), (promises .0, (promises .1, (promises .2, promises .3)))))))
@@ -104,6 +107,7 @@ row-reduce-with-transform-spec =
     rows-in-requires-2
     lesser-requires
     lesser-requires-2
+    lesser-requires-3
     start-requires
     start-requires-2
     slice-relend-prefix-reduce

@@ -2,10 +2,9 @@
 -- Assumes nothing.
 use mathlib.Core.Path.{_≡_}
 use mathlib.Core.List.{List, map}
-use Prim.Native.Nat.{ℕ, _%_}
+use Prim.Native.Nat.{ℕ}
 use lib.ListN.{take, drop, getD, set}
 use Rattle.binar.specs.Bits.{bit}
-use Rattle.binar.specs.Rows.{rowBound}
 use Rattle.symplectic.specs.Picks.{addBoth}
 use Rattle.reduction.specs.Columns.{Echelon, rows, clear, rowReduceWithTransform, rank}
 
@@ -25,8 +24,8 @@ cleared c x l = map (clear (0, 0) addBoth (λ a. bit c (a .0)) x) l
 abbrev pub swept : ℕ → ℕ → List (ℕ × ℕ) → List (ℕ × ℕ)
 swept c p l = set (cleared c (getD l p (0, 0)) l) p (getD l p (0, 0))
 
--- the rank, rows, transform (as far as a row has columns) and pivots of M reduced by its first m columns
+-- the rank, rows, transform and pivots of M reduced by its first m columns
 abbrev pub ReducedIn : ℕ → List ℕ → ℕ → List ℕ → List ℕ → List ℕ → Type 0
 ReducedIn m M r R T ps =
     let all = rowReduceWithTransform m M in
-    (r ≡ rank m M) × (R ≡ map (λ a. a .0) (rows all)) × (T ≡ map (λ a. a .1 % rowBound) (rows all)) × (ps ≡ all .pivots)
+    (r ≡ rank m M) × (R ≡ map (λ a. a .0) (rows all)) × (T ≡ map (λ a. a .1) (rows all)) × (ps ≡ all .pivots)

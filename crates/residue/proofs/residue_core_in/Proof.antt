@@ -2,8 +2,9 @@
 -- Assumes nothing.
 use mathlib.Core.Path.{_≡_, refl, sym, ap, _∙_}
 use mathlib.Core.List.{List}
-use Prim.Native.Nat.{ℕ, _+_, _≤_}
+use Prim.Native.Nat.{ℕ, _+_, _≤_, min}
 use lib.ListN.{length, replicate, length-replicate}
+use Rattle.binar.specs.Rows.{width}
 use Rattle.blocks.specs.Words.{rowsIn, over}
 use Rattle.blocks.proofs.Overs.{over-same}
 use Rattle.blocks.proofs.Values.{unmapped}
@@ -48,8 +49,8 @@ done c =
     let r = c .row-reduce-with-transform in
     let pivots : List ℕ = replicate mostRows 0 in
     let long = lent-same (put .last .1 .0) (s .rows .now) (put .kept .1 .0) ∙ start .pre .0 in
-    let few : length (rowsIn (put .last .1 .0)) ≤ length pivots = omega (arith, long, qubits-le (s .a), length-replicate {A = ℕ} mostRows 0) in
-    reduced-whole (n + n) _ (rowsIn (s .transform .now)) pivots (omega (arith, long, start .pre .1)) few (r .result) _ _ (long ∙ sym (start .pre .1)) (r .ensures .0) (r .ensures .1 .0) (r .ensures .1 .1 .0)
+    let fits : length (rowsIn (put .last .1 .0)) ≤ min width (min (length pivots) (length (rowsIn (s .transform .now)))) = omega (arith, long, qubits-le (s .a), length-replicate {A = ℕ} mostRows 0, start .pre .1) in
+    reduced-whole (n + n) _ (rowsIn (s .transform .now)) pivots fits (r .result) _ _ (long ∙ sym (start .pre .1)) (r .ensures .0) (r .ensures .1 .0) (r .ensures .1 .1 .0)
 
 capped-requires : tie.Need-capped-requires
 capped-requires c κs = search needs

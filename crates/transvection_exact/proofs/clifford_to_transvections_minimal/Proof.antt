@@ -22,7 +22,7 @@ returns : tie.Need-returns
 returns c =
     let s = c .before .before .before .before .before .before .before .before .args in
     let e = c .before .before .before .clifford-to-transvections-minimal-remembering in
-    let p = e .ensures .1 .1 .1 .1 .1 .1 .1 (omega arith) in
+    let p = e .ensures .1 .1 .1 .1 .1 .1 .1 .1 (omega arith) in
     meets (Promised (s .n) (s .rows .now) (s .budget) (s .out .now)) (minimalReply (s .n) (s .rows .now) (s .budget) (s .out .now)) (minimal-shortest (s .n) (s .rows .now) (s .budget) (s .out .now))
     (e .last .1 .1 .1 .1 .0) (figuresOf (e .result)) (p .0) (p .1 .0)
 

@@ -11,6 +11,7 @@ use Rattle.questions.specs.declared.Question.the-variants.{Passed, TooManyQubit
 use Rattle.symplectic.specs.Sizes.{maxQubits}
 use Rattle.questions.specs.Answers.{numberOf}
 use Rattle.questions.specs.Replies.{Reply, actionQuestions}
+use Rattle.actions.specs.Actions.{qubits, matrix}
 use Rattle.actions.proofs.Arrays.{loaded}
 use Rattle.questions.proofs.Questions.{passed-size, passed-count, list-passed, list-short}
 use Rattle.triangular.specs.Search.{budgeted}
@@ -90,8 +91,17 @@ returns-5 c =
 from-words-requires : tie.Need-from-words-requires
 from-words-requires c κs = search needs
 
+-- the action that was loaded
+same-action : (c : tie.After-from-words) → let s = c .before .before .before .before .before .before .before .before .args in
+    (qubits (c .from-words .result) ≡ s .n) × (matrix (c .from-words .result) ≡ rowsOfWords (s .n) (s .rows .now))
+same-action c =
+    let s = c .before .before .before .before .before .before .before .before .args in
+    let t = c .before .before in
+    let F = rowsOfWords (s .n) (s .rows .now) in
+    loaded (c .from-words .result) (s .n) F (few t) (passed-count (s .n) F (passed t)) (c .from-words .ensures .0) (c .from-words .ensures .1)
+
 searched-requires : tie.Need-searched-requires
-searched-requires c κs = search needs
+searched-requires c κs = let same = same-action (c .before .before) in ap₂ actionQuestions (same .0) (same .1) ∙ passed (c .before .before .before .before)
 
 same-length : tie.Need-same-length
 same-length c = search needs
@@ -104,10 +114,9 @@ returns-6 c =
     let s = c .before .before .before .before .before .before .before .before .before .before .before .before .before .before .before .args in
     let t = c .before .before .before .before .before .before .before .before .before in
     let F = rowsOfWords (s .n) (s .rows .now) in
-    let l = c .before .before .before .before .before .before .before .from-words in
     let e = c .before .before .before .before .searched in
     let room = roomIn (s .memory .now) in
-    let same = loaded (l .result) (s .n) F (few t) (passed-count (s .n) F (passed t)) (l .ensures .0) (l .ensures .1) in
+    let same = same-action (c .before .before .before .before .before .before .before) in
     let w = ap₂ (λ (m : ℕ) (G : List ℕ). searchedReply m G (budgeted (s .budget) (coreSearchWith m G room .outcome)) (s .out .now)) (same .0) (same .1) in
     let k = ap₂ (λ (m : ℕ) (G : List ℕ). over (memoryWords (knownWithin (s .budget) (coreSearchWith m G room .memory))) (s .memory .now)) (same .0) (same .1) in
     remembering-searched (s .n) (s .rows .now) (s .budget) (s .memory .now) (s .out .now) (e .last .1 .1 .0) (e .last .1 .1 .1 .0) (figuresOf (e .result))

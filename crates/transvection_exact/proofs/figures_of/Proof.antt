@@ -1,7 +1,7 @@
 -- `figures_of` gives each case of the answer its number, its count and its looks, those of `figuresOf`.
 -- Assumes nothing.
 use mathlib.Core.Path.{_≡_, sym, ap}
-use Rattle.transvection_exact.specs.declared.Minimal.the-variants.{Listed, TooManyQubits, WrongRowCount, RowTooWide, NotSymplectic, OutputTooShort, Spent, NotBordered}
+use Rattle.transvection_exact.specs.declared.Minimal.the-variants.{Listed, TooManyQubits, WrongRowCount, RowTooWide, NotSymplectic, OutputTooShort, Spent}
 use Rattle.transvection_exact.specs.Answers.{figuresOf}
 use borrow.Author.Needs.{needs}
 use Rattle.transvection_exact.proofs.figures_of.Statement.{statement}
@@ -27,9 +27,6 @@ enum-told-5 c = search needs
 
 enum-known-r-2 : tie.Need-enum-known-r-2
 enum-known-r-2 c = search needs
-
-enum-known-r-3 : tie.Need-enum-known-r-3
-enum-known-r-3 c = search needs
 
 returns : tie.Need-returns
 returns c =
@@ -66,11 +63,6 @@ returns-7 c =
     let e : c .before .before .before .args .r ≡ Spent (c .before .r2 .given .0 .0) = search (needs, c .before .r2 .given) in
     sym (ap figuresOf e)
 
-returns-8 : tie.Need-returns-8
-returns-8 c =
-    let e : c .before .before .before .args .r ≡ NotBordered (c .before .r3 .given .0 .0) = search (needs, c .before .r3 .given) in
-    sym (ap figuresOf e)
-
 pub figures-of-spec : {M : Type 1} → statement M
 figures-of-spec =
     tie.close
@@ -82,12 +74,10 @@ figures-of-spec =
     enum-told-4
     enum-told-5
     enum-known-r-2
-    enum-known-r-3
     returns
     returns-2
     returns-3
     returns-4
     returns-5
     returns-6
-    returns-7
-    returns-8)
+    returns-7)

@@ -1,4 +1,4 @@
--- `from_core` replies to questions 6 and 7 at each of its four ends.
+-- `from_core` replies to question 6 at each of its three ends.
 -- Assumes nothing.
 mod Ends
 use Prim.Native.Nat.{_+_}
@@ -7,7 +7,7 @@ use Rattle.symplectic.proofs.Work.{part-words}
 use borrow.Author.Needs.{needs}
 use Rattle.transvection_exact.proofs.from_core.Statement.{statement}
 use Rattle.transvection_exact.proofs.from_core.Tie as tie
-use Rattle.transvection_exact.proofs.from_core.Proof.Ends.{rows-few, returns, returns-2, returns-3, returns-4}
+use Rattle.transvection_exact.proofs.from_core.Proof.Ends.{rows-few, returns, returns-2, returns-3}
 
 capped-requires : tie.Need-capped-requires
 capped-requires c κs = search needs
@@ -54,20 +54,11 @@ same-length-3 c = search needs
 enum-told-3 : tie.Need-enum-told-3
 enum-told-3 c = search needs
 
-slice-aggregate-bordered-list : tie.Need-slice-aggregate-bordered-list
-slice-aggregate-bordered-list c = search needs
+slice-aggregate-bordered-family : tie.Need-slice-aggregate-bordered-family
+slice-aggregate-bordered-family c = search needs
 
-bordered-list-requires : tie.Need-bordered-list-requires
-bordered-list-requires c κs = search needs
-
-enum-told-4 : tie.Need-enum-told-4
-enum-told-4 c = search needs
-
-same-length-4 : tie.Need-same-length-4
-same-length-4 c = search needs
-
-enum-told-5 : tie.Need-enum-told-5
-enum-told-5 c = search needs
+bordered-family-requires : tie.Need-bordered-family-requires
+bordered-family-requires c κs = search needs
 
 slice-aggregate-start-2 : tie.Need-slice-aggregate-start-2
 slice-aggregate-start-2 c = search needs
@@ -76,25 +67,25 @@ rows-in-requires-2 : tie.Need-rows-in-requires-2
 rows-in-requires-2 c κs = search needs
 
 add-start : tie.Need-add-start
-add-start c = omega (arith, c .rows-in2 .ensures, rows-few (c .before .before .before .before .before .before .before .before .before .before .before .before .before .before .before .before .before .before .before .before))
+add-start c = omega (arith, c .rows-in2 .ensures, rows-few (c .before .before .before .before .before .before .before .before .before .before .before .before .before .before .before .before .before .before))
 
 start-requires-2 : tie.Need-start-requires-2
 start-requires-2 c κs = search needs
 
-array-share-prefix-bordered : tie.Need-array-share-prefix-bordered
-array-share-prefix-bordered c = search needs
+array-share-prefix-list-2 : tie.Need-array-share-prefix-list-2
+array-share-prefix-list-2 c = search needs
 
-slice-aggregate-laid-out : tie.Need-slice-aggregate-laid-out
-slice-aggregate-laid-out c = part-words (c .before .before .rows-in2 .result + 1) (c .before .start2 .result) (c .before .before .before .before .before .before .before .bordered-list .last .1 .1 .1 .0) (c .before .start2 .ensures)
+slice-aggregate-multiplied-2 : tie.Need-slice-aggregate-multiplied-2
+slice-aggregate-multiplied-2 c = part-words (c .before .before .rows-in2 .result + 1) (c .before .start2 .result) (c .before .before .before .before .before .bordered-family .last .1 .0) (c .before .start2 .ensures)
 
-laid-out-requires : tie.Need-laid-out-requires
-laid-out-requires c κs = search needs
+multiplied-requires-2 : tie.Need-multiplied-requires-2
+multiplied-requires-2 c κs = search needs
+
+same-length-4 : tie.Need-same-length-4
+same-length-4 c = search needs
 
 same-length-5 : tie.Need-same-length-5
 same-length-5 c = search needs
-
-same-length-6 : tie.Need-same-length-6
-same-length-6 c = search needs
 
 pub from-core-spec : {M : Type 1} → statement M
 from-core-spec =
@@ -117,19 +108,15 @@ from-core-spec =
     same-length-3
     returns-2
     enum-told-3
-    slice-aggregate-bordered-list
-    bordered-list-requires
-    enum-told-4
-    same-length-4
-    returns-3
-    enum-told-5
+    slice-aggregate-bordered-family
+    bordered-family-requires
     slice-aggregate-start-2
     rows-in-requires-2
     add-start
     start-requires-2
-    array-share-prefix-bordered
-    slice-aggregate-laid-out
-    laid-out-requires
+    array-share-prefix-list-2
+    slice-aggregate-multiplied-2
+    multiplied-requires-2
+    same-length-4
     same-length-5
-    same-length-6
-    returns-4)
+    returns-3)

@@ -69,6 +69,7 @@ from-core-requires c κs =
           ∙ over-front (basis n F) (rowsIn (replicate mostRows 0)) (room-in mostRows (length (basis n F)) (omega (arith, b-few, qubits-le a))),
       lent-front (r .result) (c .before .before .before .before .start2 .result) (r .last .1 .1 .0) (c .before .before .before .before .start2 .ensures) ∙ ap₂ take c-size (r .ensures .1 .1)
           ∙ over-front (core n F) (rowsIn (replicate mostRows 0)) (room-in mostRows (length (core n F)) (omega (arith, c-few, qubits-le a))),
+      start .pre,
     )
 
 same-length : tie.Need-same-length

@@ -1,8 +1,7 @@
 -- The turns of `peel`: what holds before each, and what one leaves.
 -- Assumes nothing.
 use mathlib.Core.Path.{_≡_, refl, sym, ap, _∙_}
-use mathlib.Core.Bool.{Bool, true}
-use mathlib.Core.List.{List, map}
+use mathlib.Core.List.{List}
 use mathlib.Core.Logic.{⊎-elim}
 use mathlib.Core.Option.{Option, some}
 use Prim.Native.Nat.{ℕ, suc, _+_, _-_, _≤_, _<_, zero-le}
@@ -20,20 +19,19 @@ use Rattle.residue.specs.Residue.{form}
 use Rattle.symplectic.specs.Picks.{mapSome, pick}
 use Rattle.triangular.specs.Spaces.{complement}
 use Rattle.family.specs.declared.Picked.the-variants.{Nothing}
-use Rattle.family.specs.Family.{symplecticSimplex, borderedFamily}
-use Rattle.family.specs.Readings.{ifMade, familyOf}
-use Rattle.family.specs.inner.Parts.{peeledBefore}
+use Rattle.family.specs.Family.{symplecticSimplex, borderedFamily, vectors}
+use Rattle.family.specs.inner.Parts.{ifMade, behind}
 use Rattle.family.proofs.Behind.{over-all}
 use Rattle.family.proofs.Drops.{drop-length}
 use Rattle.family.proofs.Members.{picked-vector, picked-nothing, fit-length}
-use Rattle.family.proofs.Peeling.{Left, family-begun, family-rest, turn-stuck, turn-peeled, joined-made}
+use Rattle.family.proofs.Peeling.{Left, family-begun, family-rest, turn-stuck, turn-peeled}
 use native.Mathlib.Omega.{arith}
 use borrow.Author.Needs.{needs}
 use Rattle.family.proofs.peel.Tie as tie
 
--- the family of a space
-abbrev pub family-of : List ℕ → ℕ → List ℕ → Option (List (ℕ × Bool))
-family-of E k b = borderedFamily (form E) k (take k b)
+-- the vectors of a space's family
+abbrev pub family-of : List ℕ → ℕ → List ℕ → Option (List ℕ)
+family-of E k b = mapSome vectors (borderedFamily (form E) k (take k b))
 
 abbrev pub Inv-loop : tie.InvT-loop
 Inv-loop basis₀ forms₀ k list₀ d₀ peeled₀ basis forms list d peeled = (peeled + d ≡ k)
@@ -65,10 +63,8 @@ loop-holds c =
     )
 
 pub returns : tie.Need-returns Inv-loop μ-loop
-unfolding familyOf
 returns c =
-    let start = c .before .before .before .before .before .before .before .before .before .before .before .before .before .before .before .before .before .before .before in
-    let s = start .args in
+    let s = c .before .before .before .before .before .before .before .before .before .before .before .before .before .before .before .before .before .before .before .args in
     let here = c .before .before .before .before .before .before .before .before .before .before .before .before .before .before .before in
     let at = here .loop in
     let B = take (at .d) (rowsIn (at .basis)) in
@@ -78,12 +74,10 @@ returns c =
     let made = c .before .before .before .before .before .before .symplectic-simplex in
     let rows = rowsIn (made .last .1 .1 .1 .0) in
     let whole : at .peeled + at .d + 1 ≡ s .k + 1 = omega (arith, at .inv .0) in
-    let peeled = length-take-le (at .peeled) (rowsIn (at .list)) (omega (arith, at .inv .0, at .inv .5, start .pre .2)) in
     λ E fit.
     let inv = at .inv .6 E fit in
-    joined-made (made .result) (at .peeled) (take (s .k + 1) rows) vs (symplecticSimplex (form E) (at .d) B) peeled
-    (ap (λ (n : ℕ). ifMade (made .result) (take n rows)) (sym whole) ∙ made .ensures E (inv .0))
-    ∙ ap (λ (n : ℕ). mapSome (peeledBefore vs) (mapSome (map (λ (v : ℕ). (v, true))) (symplecticSimplex (form E) n B))) (sym (size here))
+    ap (λ (n : ℕ). ifMade (made .result) (take n rows)) (sym whole) ∙ made .ensures E (inv .0)
+    ∙ ap (λ (n : ℕ). mapSome (behind vs) (symplecticSimplex (form E) n B)) (sym (size here))
     ∙ family-rest (form E) (family-of E (s .k) (rowsIn (s .basis .now))) vs B (inv .1) (picked-nothing E (p .result) (pick _⊕_ (form E) B) (p .ensures E (inv .0)) is)
 
 -- the vector that is picked, and its form row
@@ -95,7 +89,6 @@ chosen c E fit =
     picked-vector E (p .result) (pick _⊕_ (form E) (take (c .before .before .before .before .before .loop .d) (rowsIn (c .before .before .before .before .before .loop .basis)))) (p .ensures E fit) (g .0 .0) (g .0 .1 .0) (search (needs, g))
 
 pub returns-2 : tie.Need-returns-2 Inv-loop μ-loop
-unfolding familyOf
 returns-2 c =
     let s = c .before .before .before .before .before .before .before .before .before .before .before .before .before .args in
     let at = c .before .before .before .before .before .before .before .before .before .loop in

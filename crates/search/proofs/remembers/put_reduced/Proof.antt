@@ -86,7 +86,7 @@ returns c =
       ap (take d) back-b ∙ back-front d A (rowsIn (o .last .1 .0)) in-b d (le-refl d) ∙ again .ensures .0,
       ap (take d) back-g ∙ back-front d G (rowsIn (o .last .1 .1 .0)) in-g d (le-refl d),
       ap (λ l. take d (drop d l)) back-b ∙ ap (take d) (back-rest d A (rowsIn (o .last .1 .0)) in-b)
-          ∙ reduced-front d _ _ (take d (replicate width 0)) _ (length-take-le d (replicate width 0) (omega (arith, length-replicate {A = ℕ} width 0, s .pre .0)))
+          ∙ reduced-front d _ _ (take d (replicate width 0)) _ (s .pre .0) (length-take-le d (replicate width 0) (omega (arith, length-replicate {A = ℕ} width 0, s .pre .0)))
           (subst (λ l. d ≤ length l) (sym rest-b) (omega (arith, length-drop d A, whole-b)))
           (subst (λ l. d ≤ length l) (sym rest-g) (omega (arith, length-drop d G, s .pre .2))) (o .ensures .1 .0)
           ∙ ap (entryBasis width) (ap (take d) rest-b ∙ again .ensures .1),

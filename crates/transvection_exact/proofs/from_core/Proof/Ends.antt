@@ -1,9 +1,8 @@
--- The four ends of `from_core`, by `searched-spent`, `searched-found`, `searched-unbordered` and `searched-bordered`.
+-- The three ends of `from_core`, by `searched-spent`, `searched-found` and `searched-failed`.
 -- Assumes nothing.
 use mathlib.Core.Path.{_≡_, sym, ap, ap₂, _∙_, subst}
 use mathlib.Core.List.{List}
-use mathlib.Core.Option.{Option}
-use Prim.Native.Nat.{ℕ, _+_, _≤_}
+use Prim.Native.Nat.{ℕ, suc, _+_, _≤_}
 use native.Mathlib.Omega.{arith}
 use lib.ListN.{length, take, replicate}
 use Rattle.binar.specs.Rows.{width}
@@ -11,26 +10,25 @@ use Rattle.blocks.specs.Matrices.{matmul}
 use Rattle.blocks.specs.Words.{laid, rowsIn, over}
 use Rattle.blocks.proofs.Values.{unmapped}
 use Rattle.blocks.proofs.Lent.{lent-front}
-use Rattle.blocks.proofs.Overs.{over-front}
+use Rattle.blocks.proofs.Overs.{over-front, over-length}
 use Rattle.symplectic.specs.Sizes.{mostRows}
 use Rattle.actions.specs.Actions.{qubits, matrix}
 use Rattle.questions.specs.Replies.{Reply}
 use Rattle.actions.proofs.Arrays.{qubits-le, matrix-length, qubits-capped}
 use Rattle.symplectic.proofs.Work.{room-in}
-use Rattle.residue.proofs.Core.{core-within}
+use Rattle.residue.proofs.Core.{core-length, core-within}
 use Rattle.triangular.specs.declared.Ending.the-variants.{Found, Failed}
-use Rattle.family.specs.Family.{coreFamily}
+use Rattle.family.specs.Family.{coreFamily, vectorsOf}
 use Rattle.family.specs.Readings.{mostVectors}
-use Rattle.bordered.specs.declared.Candidate.the-variants.{Passed}
-use Rattle.bordered.specs.Checks.{checkedList}
-use Rattle.bordered.specs.Readings.{listOf}
-use Rattle.bordered.proofs.Listed.{bordered-of}
+use Rattle.family.proofs.Passes.{vectors-size}
+use Rattle.questions.proofs.Questions.{passed-rows, passed-symplectic}
+use Rattle.residue.specs.Residue.{core}
 use Rattle.triangular.specs.Search.{Outcome, budgeted}
 use Rattle.triangular.specs.Memory.{Remembered, searchedCore, knownWithin}
 use Rattle.memory.specs.Entries.{memoryWords, roomIn}
 use Rattle.triangular.specs.Readings.{coreIn, basisFound}
 use Rattle.transvection_exact.specs.Minimal.{coreSearchWith}
-use Rattle.transvection_exact.proofs.Outcomes.{Came, found-size, searched-spent, searched-found, searched-unbordered, searched-bordered, bordered-size}
+use Rattle.transvection_exact.proofs.Outcomes.{core-fits, Came, found-size, searched-spent, searched-found, searched-failed}
 use Rattle.transvection_exact.proofs.Remembering.{remembered-right, same-core}
 use borrow.Author.Needs.{needs}
 use Rattle.transvection_exact.proofs.from_core.Tie as tie
@@ -66,11 +64,16 @@ entered c =
     let s = c .before .before .before .before .before .before .before .before .args in
     c .congruence-triangularize .ensures .1 .1 ∙ ap (λ (x : Remembered). over (memoryWords (knownWithin (s .budget) (x .memory))) (s .memory .now)) (same (c .before .before .before .before .before .before .before .before))
 
--- the bordered list of the basis and the core
-abbrev listed-in : tie.Start → Option (List ℕ)
-listed-in c =
-    let s = c .args in
-    checkedList (qubits (s .a)) (matrix (s .a)) (rowsIn (s .basis .now)) (rowsIn (s .core .now)) (coreFamily (coreIn (s .core .now)))
+-- the vectors of the core's family
+abbrev family-of : tie.Start → List ℕ
+family-of c = vectorsOf (coreFamily (core (qubits (c .args .a)) (matrix (c .args .a))))
+
+family-size : (c : tie.Start) → length (family-of c) ≡ suc (length (rowsIn (c .args .core .now)))
+family-size c =
+    let n = qubits (c .args .a) in
+    let F = matrix (c .args .a) in
+    let q = c .pre .2 in
+    vectors-size n F (size c) (passed-rows n F q) (passed-symplectic n F q) ∙ ap suc (sym (ap length (c .pre .1) ∙ core-length n F))
 
 pub returns : tie.Need-returns
 returns c =
@@ -89,49 +92,39 @@ returns-2 c =
     let q = qubits-is (c .before .before .before .before .before .before .before .before .before .before .before .before .before .before .before .before) in
     let told : o .result .ending ≡ Found = search (needs, c .before .before .before .before .before .before .before .before .enum-told2 .given) in
     let e = c .before .before .multiplied .ensures in
-    let zeros = rowsIn (replicate width 0) in
+    let zeros = rowsIn (replicate mostVectors 0) in
     let n = c .before .before .before .before .before .before .rows-in .ensures in
     let few = rows-few start in
     let many = found-size (qubits (s .a)) (matrix (s .a)) (s .budget) (s .out .now) (outcome start) (o .result) (came (c .before .before .before .before .before .before .before .before .before .before .before .before .before)) (remembered-right (qubits (s .a)) (matrix (s .a)) (roomIn (s .memory .now))) told (s .core .now) (pre .1) in
     let list : rowsIn (take (c .before .before .before .before .before .start .result) (o .last .1 .1 .1 .0)) ≡ basisFound _ =
     lent-front (c .before .before .before .before .before .before .rows-in .result) (c .before .before .before .before .before .start .result) (o .last .1 .1 .1 .0) (c .before .before .before .before .before .start .ensures)
     ∙ ap₂ take (n ∙ sym many) (o .ensures .1 .0 ∙ ap (λ (x : Remembered). over (basisFound (budgeted (s .budget) (x .outcome))) zeros) (same start))
-    ∙ over-front _ zeros (omega (arith, many, room-in width (length (rowsIn (s .core .now))) few)) in
+    ∙ over-front _ zeros (room-in mostVectors _ (omega (arith, many, few))) in
     let vs = matmul (rowsIn (take (c .before .before .before .before .before .start .result) (o .last .1 .1 .1 .0))) (rowsIn (s .basis .now)) in
     let w = searched-found (qubits (s .a)) (matrix (s .a)) (s .budget) (s .out .now) (outcome start) (o .result) (came (c .before .before .before .before .before .before .before .before .before .before .before .before .before)) vs told (ap₂ matmul list (pre .0)) in
     (e .0 ∙ sym (ap (λ (x : Reply). x .figures) w), (e .1 ∙ ap (λ (m : ℕ). laid m vs (s .out .now)) q ∙ sym (ap (λ (x : Reply). x .words) w), entered (c .before .before .before .before .before .before .before .before .before .before .before .before .before)))
 
 pub returns-3 : tie.Need-returns-3
 returns-3 c =
-    let start = c .before .before .before .before .before .before .before .before .before .before .before .before .before .before .before .before .before .before in
+    let start = c .before .before .before .before .before .before .before .before .before .before .before .before .before .before .before .before .before .before .before .before .before .before .before .before in
     let s = start .args in
     let pre = start .pre in
-    let o = c .before .before .before .before .before .before .before .before .before .before .congruence-triangularize in
-    let l = c .before .before .before .bordered-list in
-    let is = bordered-of (qubits (s .a)) (matrix (s .a)) (size start) (qubits-le (s .a)) (s .basis .now) (s .core .now) (pre .0) (pre .1) in
-    let w = searched-unbordered (qubits (s .a)) (matrix (s .a)) (s .budget) (s .out .now) (outcome start) (o .result) (came (c .before .before .before .before .before .before .before .before .before .before)) (search (needs, c .before .before .before .before .before .enum-told3 .given)) (l .result) (listed-in start) is (l .ensures .0) (search (needs, c .enum-told4 .given)) in
-    (sym (ap (λ (x : Reply). x .figures) w), (sym (ap (λ (x : Reply). x .words) w), entered (c .before .before .before .before .before .before .before .before .before .before)))
-
-pub returns-4 : tie.Need-returns-4
-returns-4 c =
-    let start = c .before .before .before .before .before .before .before .before .before .before .before .before .before .before .before .before .before .before .before .before .before .before .before .before .before .before in
-    let s = start .args in
-    let pre = start .pre in
-    let o = c .before .before .before .before .before .before .before .before .before .before .before .before .before .before .before .before .before .before .congruence-triangularize in
-    let q = qubits-is (c .before .before .before .before .before .before .before .before .before .before .before .before .before .before .before .before .before .before .before .before .before) in
-    let l = c .before .before .before .before .before .before .before .before .before .before .before .bordered-list in
+    let o = c .before .before .before .before .before .before .before .before .before .before .before .before .before .before .before .before .congruence-triangularize in
+    let q = qubits-is (c .before .before .before .before .before .before .before .before .before .before .before .before .before .before .before .before .before .before .before) in
+    let l = c .before .before .before .before .before .before .before .before .before .bordered-family in
     let k = c .before .before .before .before .before .before .rows-in2 in
     let to = c .before .before .before .before .before .start2 in
-    let is = bordered-of (qubits (s .a)) (matrix (s .a)) (size start) (qubits-le (s .a)) (s .basis .now) (s .core .now) (pre .0) (pre .1) in
-    let fails : o .result .ending ≡ Failed = search (needs, c .before .before .before .before .before .before .before .before .before .before .before .before .before .enum-told3 .given) in
-    let passed : l .result ≡ Passed = search (needs, c .before .before .before .before .before .before .before .before .enum-told5 .given) in
-    let count = bordered-size (qubits (s .a)) (matrix (s .a)) (s .core .now) (pre .1) (l .result) (listed-in start) is (l .ensures .0) passed in
-    let one : k .result + 1 ≡ length (listOf (listed-in start)) = omega (arith, count, k .ensures) in
-    let zeros = rowsIn (replicate mostVectors 0) in
+    let fails : o .result .ending ≡ Failed = search (needs, c .before .before .before .before .before .before .before .before .before .before .before .enum-told3 .given) in
+    let count = family-size start in
     let few = rows-few start in
-    let list : rowsIn (take (to .result) (l .last .1 .1 .1 .0)) ≡ listOf (listed-in start) =
-    lent-front (k .result + 1) (to .result) (l .last .1 .1 .1 .0) (to .ensures) ∙ ap₂ take one (l .ensures .1) ∙ over-front (listOf (listed-in start)) zeros (room-in mostVectors (length (listOf (listed-in start))) (omega (arith, count, few))) in
-    let vs = rowsIn (take (to .result) (l .last .1 .1 .1 .0)) in
-    let e = c .before .before .laid-out .ensures in
-    let w = searched-bordered (qubits (s .a)) (matrix (s .a)) (s .budget) (s .out .now) (outcome start) (o .result) (came (c .before .before .before .before .before .before .before .before .before .before .before .before .before .before .before .before .before .before)) fails (l .result) (listed-in start) is (l .ensures .0) vs passed list in
-    (e .0 ∙ sym (ap (λ (x : Reply). x .figures) w), (e .1 ∙ ap (λ (m : ℕ). laid m vs (s .out .now)) q ∙ sym (ap (λ (x : Reply). x .words) w), entered (c .before .before .before .before .before .before .before .before .before .before .before .before .before .before .before .before .before .before)))
+    let one : k .result + 1 ≡ length (family-of start) = omega (arith, count, k .ensures) in
+    let room : length (family-of start) ≤ length (rowsIn (o .last .1 .1 .1 .0)) =
+    subst (λ (m : ℕ). length (family-of start) ≤ m) (sym (ap length (o .ensures .1 .0) ∙ over-length _ (rowsIn (replicate mostVectors 0)))) (room-in mostVectors (length (family-of start)) (omega (arith, count, few))) in
+    let list : rowsIn (take (to .result) (l .last .1 .0)) ≡ family-of start =
+    lent-front (k .result + 1) (to .result) (l .last .1 .0) (to .ensures)
+    ∙ ap₂ take one (l .ensures ∙ ap (λ (E : List ℕ). over (vectorsOf (coreFamily E)) (rowsIn (o .last .1 .1 .1 .0))) (core-fits (qubits (s .a)) (matrix (s .a)) (size start) (qubits-le (s .a)) (s .core .now) (pre .1)))
+    ∙ over-front (family-of start) (rowsIn (o .last .1 .1 .1 .0)) room in
+    let vs = matmul (rowsIn (take (to .result) (l .last .1 .0))) (rowsIn (s .basis .now)) in
+    let e = c .before .before .multiplied2 .ensures in
+    let w = searched-failed (qubits (s .a)) (matrix (s .a)) (s .budget) (s .out .now) (outcome start) (o .result) (came (c .before .before .before .before .before .before .before .before .before .before .before .before .before .before .before .before)) vs fails (ap₂ matmul list (pre .0)) in
+    (e .0 ∙ sym (ap (λ (x : Reply). x .figures) w), (e .1 ∙ ap (λ (m : ℕ). laid m vs (s .out .now)) q ∙ sym (ap (λ (x : Reply). x .words) w), entered (c .before .before .before .before .before .before .before .before .before .before .before .before .before .before .before .before)))
