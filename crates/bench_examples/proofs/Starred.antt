@@ -18,8 +18,8 @@ use Rattle.fixed_space.specs.FixedSpace.{kernel, reducedBasis, fixedSpace, fixe
 use Rattle.triangular.specs.Search.{draws, search, budgeted}
 use Rattle.triangular.specs.Memory.{entryBasis, isSpace, holds, enter, drawsWith, searchWith, knownWithin}
 use Rattle.triangular.specs.Spaces.{complement, symmetricWith, isAlternating}
-use Rattle.family.specs.Family.{splitAt, withPartner, fromFirst, symplecticSimplex, peeled, borderedFamily, vectorsOf}
-use Rattle.family.specs.Checks.{borderedList, unitLower, validate, verifiesBordered, candidatePasses}
+use Rattle.family.specs.Family.{splitAt, withPartner, fromFirst, symplecticSimplex, peeled, borderedFamily, vectorsOf, borderedList}
+use Rattle.family.specs.Checks.{unitLower, validate, verifiesBordered, candidatePasses}
 use Rattle.transvection.specs.Greedy.{besideBasis, firstNonzero, nextTransvection, recorded, greedyList, greedyReply}
 use Rattle.transvection_exact.specs.Minimal.{coreSearch, minimalReply, coreSearchWith, rememberingReply, memoryLeft}
 use Rattle.memory.specs.Entries.{entryWords, memoryWords, roomIn}

@@ -38,8 +38,8 @@ use Rattle.residue.proofs.Forms.{formOf, form-right}
 use Rattle.triangular.specs.Bases.{TriangularBasis}
 use Rattle.triangular.proofs.Bases.{of-good}
 use Rattle.triangular.proofs.Complete.{Is}
-use Rattle.family.specs.Family.{borderedFamily, coreFamily, vectors, vectorsOf}
-use Rattle.family.specs.Checks.{timesBasis, borderedList, relationSum, borderedForm, unitLower, validate, verifiesBordered, bothChecks, candidatePasses}
+use Rattle.family.specs.Family.{borderedFamily, coreFamily, vectors, vectorsOf, timesBasis, borderedList}
+use Rattle.family.specs.Checks.{relationSum, borderedForm, unitLower, validate, verifiesBordered, bothChecks, candidatePasses}
 use Rattle.family.proofs.Sizes.{OneMore, family-size}
 use Rattle.family.proofs.Whole.{Whole}
 use Rattle.family.proofs.FamilyMade.{Basis, Bordered, family-made}

@@ -1,27 +1,18 @@
--- The bordered candidate of an action, and the two checks that the source makes of it: `validate` of the family, and
--- `verifies_bordered_decomposition` of its list. No code makes them: that every candidate that is needed passes is a theorem (`always-passes`).
+-- The two checks that the source makes of a bordered candidate: `validate` of the family, and `verifies_bordered_decomposition` of its list.
+-- No code makes them and no contract reaches them: that a candidate passes wherever one is needed is a theorem (`always-passes`).
 -- Assumes nothing.
 use mathlib.Core.Bool.{Bool, true, false, _&&_, not}
-use mathlib.Core.List.{List, [], _∷_, map}
+use mathlib.Core.List.{List, [], _∷_}
 use mathlib.Core.Option.{Option, none, some}
 use Prim.Native.Nat.{ℕ, suc}
 use lib.Dec.{eqb}
 use lib.ListN.{length}
 use Rattle.binar.specs.Bits.{_⊻_, select, _⊕_}
-use Rattle.blocks.specs.Matrices.{times}
 use Rattle.symplectic.specs.Turns.{allOf}
 use Rattle.symplectic.specs.Matches.{fitAll, matches}
 use Rattle.reduction.specs.Columns.{rank}
 use Rattle.residue.specs.Residue.{basis, core, form}
-use Rattle.family.specs.Family.{coreFamily, vectors, vectorsOf}
-
--- each vector multiplied by V, order kept
-abbrev pub timesBasis : ℕ → List ℕ → List ℕ → List ℕ
-timesBasis n F vs = map (λ p. times p (basis n F)) vs
-
--- the bordered list: the vectors of the core's family, multiplied by V
-unfoldable pub borderedList : ℕ → List ℕ → List ℕ
-borderedList n F = timesBasis n F (vectorsOf (coreFamily (core n F)))
+use Rattle.family.specs.Family.{coreFamily, vectors, timesBasis}
 
 -- ---- `validate`
 

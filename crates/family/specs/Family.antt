@@ -7,9 +7,9 @@ use mathlib.Core.Option.{Option, none, some}
 use Prim.Native.Nat.{ℕ, zero, suc}
 use lib.ListN.{length}
 use Rattle.binar.specs.Bits.{select, _⊕_}
-use Rattle.blocks.specs.Matrices.{units}
+use Rattle.blocks.specs.Matrices.{times, units}
 use Rattle.symplectic.specs.Picks.{orIf, mapSome, pick}
-use Rattle.residue.specs.Residue.{form}
+use Rattle.residue.specs.Residue.{basis, core, form}
 use Rattle.triangular.specs.Spaces.{complement}
 
 -- some member of a list passes the test
@@ -85,3 +85,12 @@ vectors l = map (λ a. a .0) l
 unfoldable pub vectorsOf : Option (List (ℕ × Bool)) → List ℕ
 vectorsOf none = []
 vectorsOf (some l) = vectors l
+
+-- ---- the bordered list of an action
+
+-- each vector multiplied by V, order kept
+abbrev pub timesBasis : ℕ → List ℕ → List ℕ → List ℕ
+timesBasis n F vs = map (λ p. times p (basis n F)) vs
+
+unfoldable pub borderedList : ℕ → List ℕ → List ℕ
+borderedList n F = timesBasis n F (vectorsOf (coreFamily (core n F)))

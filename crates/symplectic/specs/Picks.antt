@@ -7,11 +7,6 @@ use mathlib.Core.Option.{Option, none, some}
 use Prim.Native.Nat.{ℕ}
 use Rattle.binar.specs.Bits.{_⊻_, _⊕_}
 
--- a value where the bit is set, else none
-abbrev pub when : {A : Type 0} → Bool → A → Option A
-when true a = some a
-when false a = none
-
 abbrev pub orIf : {A : Type 0} → Bool → A → Option A → Option A
 orIf true a later = some a
 orIf false a later = later

@@ -24,7 +24,7 @@ use Rattle.residue.proofs.Coordinates.{lift, images, core-wall, images-indep, i
 use Rattle.triangular.specs.Bases.{TriangularBasis}
 use Rattle.triangular.proofs.Bases.{of-good}
 use Rattle.triangular.proofs.Complete.{Is}
-use Rattle.family.specs.Checks.{timesBasis}
+use Rattle.family.specs.Family.{timesBasis}
 use Rattle.transvection_exact.specs.NoneShorter.{NoneShorter}
 
 module _ (n : ℕ) (F : List ℕ) (size : length F ≡ n + n) (symp : symplectic n F ≡ true) where

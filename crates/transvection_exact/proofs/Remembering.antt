@@ -31,7 +31,7 @@ use Rattle.triangular.proofs.Entries.{known-nil}
 use Rattle.triangular.proofs.Remembers.{Dead, Follows, remembers, plain-search}
 use Rattle.memory.specs.Entries.{memoryWords, roomIn}
 use Rattle.memory.proofs.Kept.{room-none, words-none}
-use Rattle.family.specs.Checks.{timesBasis}
+use Rattle.family.specs.Family.{timesBasis}
 use Rattle.transvection_exact.specs.Minimal.{coreSearch, coreSearchWith, searchedReply, minimalReply, rememberingReply, unlessAsked, memoryLeft}
 use Rattle.transvection_exact.specs.Answers.{Shortest, ExactWith, AsWithout, EveryLayer, Plainly}
 use Rattle.transvection_exact.proofs.Shortest.{RightOf, core-right}

@@ -11,7 +11,7 @@ use Rattle.residue.specs.Residue.{basis, core, form}
 use Rattle.triangular.specs.Search.{Outcome, found, failed, search, looksOf, Verdict, ended, spent, budgeted}
 use Rattle.triangular.specs.Memory.{Remembered, searchWith, knownWithin}
 use Rattle.memory.specs.Entries.{memoryWords, roomIn}
-use Rattle.family.specs.Checks.{timesBasis, borderedList}
+use Rattle.family.specs.Family.{timesBasis, borderedList}
 
 -- the search on the core of an action, with no budget, begun from unit vectors
 unfoldable pub coreSearch : ℕ → List ℕ → Outcome
