@@ -76,25 +76,25 @@ module _ (F : Form 𝕎) where
 
   -- ---- a peeled vector before the family of the rest
 
-  module _ (bs : List ℕ) (i : Indep 𝕎 bs) (w : Whole F bs) (p : ℕ) (e : F .at p p ≡ true) (h : InSpan 𝕎 bs p) where
+  module _ (bs : List ℕ) (p : ℕ) (e : F .at p p ≡ true) (h : InSpan 𝕎 bs p) where
     abbrev cs : List ℕ
     cs = complement (F .at p) bs
 
     basis-before : Basis cs → Basis bs
-    basis-before g = (p ∷ g .0, subst (λ d. Is F d bs (p ∷ g .0)) (sym (one-less F bs i w p e h)) (cons-is F (length cs) bs p (g .0) e h (g .1)))
+    basis-before g = (p ∷ g .0, subst (λ d. Is F d bs (p ∷ g .0)) (sym (one-less F bs p e h)) (cons-is F (length cs) bs p (g .0) e h (g .1)))
 
     peel-before : (out : Option (List (ℕ × Bool))) → Bordered cs out → Bordered bs (mapSome (λ l. (p, false) ∷ l) out)
     peel-before none b = b
     peel-before (some l) b = (
-      (ap (λ t. t ⊻ false) e, All·map (λ x k. ap (λ t. t ⊻ false) (zero-with F bs i w p e h (x .0) k)) l (b .1), b .0),
-      (h, All·map (λ x k. in-space F bs i w p e h (x .0) k) l (b .1)),
+      (ap (λ t. t ⊻ false) e, All·map (λ x k. ap (λ t. t ⊻ false) (zero-with F bs p e h (x .0) k)) l (b .1), b .0),
+      (h, All·map (λ x k. in-space F bs p e h (x .0) k) l (b .1)),
       (λ z. absurd (not-left p p e z), All·map (λ x k z. basis-before (k z)) l (b .2)),
     )
 
     peel-passed : (go : List ℕ → Option (List (ℕ × Bool))) → Bordered cs (go cs)
         → Bordered bs (mapSome (λ l. (p, false) ∷ l) (passedOn (F .at) (anyOf (F .at p) bs) go cs))
     peel-passed go b =
-        subst (λ c. Bordered bs (mapSome (λ l. (p, false) ∷ l) (passedOn (F .at) c go cs))) (sym (drops F bs i w p e h)) (peel-before (go cs) b)
+        subst (λ c. Bordered bs (mapSome (λ l. (p, false) ∷ l) (passedOn (F .at) c go cs))) (sym (drops F bs p e h)) (peel-before (go cs) b)
 
   -- ---- the family
 
@@ -112,5 +112,5 @@ module _ (F : Form 𝕎) where
       by none a ih = on-alternating bs a i w
       by (some p) h ih =
           let cs = complement (F .at p) bs in
-          peel-passed bs i w p (h .0) (h .1) (borderedFamily (F .at) k)
-          (ih cs (omega (arith, one-less F bs i w p (h .0) (h .1))) (rest-indep F bs i w p (h .0) (h .1)) (rest-whole F bs i w p (h .0) (h .1)))
+          peel-passed bs p (h .0) (h .1) (borderedFamily (F .at) k)
+          (ih cs (omega (arith, one-less F bs p (h .0) (h .1))) (rest-indep F bs p (h .0) (h .1) i) (rest-whole F bs p (h .0) (h .1) w))

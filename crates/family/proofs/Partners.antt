@@ -58,7 +58,7 @@ module _ (F : Form 𝕎) where
   -- ---- the rest beside a pair
 
   module _ (f : ℕ) (bs : List ℕ) (t : Split) (r : (P : ℕ → Type 0) → Parted f P bs (some t))
-      (a : Even 𝕎 F (f ∷ bs)) (i : Indep 𝕎 (f ∷ bs)) (w : Whole F (f ∷ bs)) where
+      (a : Even 𝕎 F (f ∷ bs)) where
     abbrev s : ℕ
     s = t .partner
 
@@ -125,8 +125,8 @@ module _ (F : Form 𝕎) where
           (All·map (λ y h. (F .at s y, (F .at f y, h))) os (All·of-map clear (InSpan 𝕎 rest) os (span-members 𝕎 rest))),
     )
 
-    pub rest-indep : Indep 𝕎 (map (clearedOfPair (F .at) f (t .partner)) (t .others))
-    rest-indep = steinitz-indep 𝕎 (f ∷ s ∷ rest) (f ∷ bs) i all-in (ap suc rest-less) .1 .1
+    pub rest-indep : Indep 𝕎 (f ∷ bs) → Indep 𝕎 (map (clearedOfPair (F .at) f (t .partner)) (t .others))
+    rest-indep i = steinitz-indep 𝕎 (f ∷ s ∷ rest) (f ∷ bs) i all-in (ap suc rest-less) .1 .1
 
     pub rest-in : (x : ℕ) → InSpan 𝕎 (map (clearedOfPair (F .at) f (t .partner)) (t .others)) x → InSpan 𝕎 (f ∷ bs) x
     rest-in x h = span-trans 𝕎 rest (f ∷ bs) x (All·to-map clear (InSpan 𝕎 (f ∷ bs)) os (All·map cleared-in os (r (InSpan 𝕎 (f ∷ bs)) .1 members .1))) h
@@ -137,8 +137,8 @@ module _ (F : Form 𝕎) where
     pub partner-zero : (x : ℕ) → InSpan 𝕎 (map (clearedOfPair (F .at) f (t .partner)) (t .others)) x → F .at (t .partner) x ≡ false
     partner-zero x h = span-kernel 𝕎 𝔹 (F .at s) (F .right s) rest (All·to-map clear (λ y. F .at s y ≡ false) os (All·any partner-cleared os)) x h
 
-    pub rest-whole : Whole F (map (clearedOfPair (F .at) f (t .partner)) (t .others))
-    rest-whole x h k =
+    pub rest-whole : Whole F (f ∷ bs) → Whole F (map (clearedOfPair (F .at) f (t .partner)) (t .others))
+    rest-whole w x h k =
         w x (rest-in x h)
         (λ y m. span-kernel 𝕎 𝔹 (F .at x) (F .right x) (f ∷ s ∷ rest)
         (symmetric (f ∷ bs) a x f (rest-in x h) first-in ∙ first-zero x h, (symmetric (f ∷ bs) a x s (rest-in x h) partner-in ∙ partner-zero x h, All·map (λ z l. k z l) rest (span-members 𝕎 rest)))

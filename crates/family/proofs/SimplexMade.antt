@@ -34,7 +34,7 @@ module _ (F : Form 𝕎) where
   -- ---- a pair before the simplex of the rest
 
   module _ (f : ℕ) (bs : List ℕ) (t : Split) (r : (P : ℕ → Type 0) → Parted F f P bs (some t))
-      (a : Even 𝕎 F (f ∷ bs)) (i : Indep 𝕎 (f ∷ bs)) (w : Whole F (f ∷ bs)) where
+      (a : Even 𝕎 F (f ∷ bs)) where
     abbrev s : ℕ
     s = t .partner
 
@@ -42,22 +42,22 @@ module _ (F : Form 𝕎) where
     rest = map (clearedOfPair (F .at) f s) (t .others)
 
     abbrev in-f : InSpan 𝕎 (f ∷ bs) f
-    in-f = first-in F f bs t r a i w
+    in-f = first-in F f bs t r a
 
     abbrev in-s : InSpan 𝕎 (f ∷ bs) s
-    in-s = partner-in F f bs t r a i w
+    in-s = partner-in F f bs t r a
 
     abbrev e-sf : F .at s f ≡ true
-    e-sf = partner-first F f bs t r a i w
+    e-sf = partner-first F f bs t r a
 
     abbrev in-rest : (x : ℕ) → InSpan 𝕎 rest x → InSpan 𝕎 (f ∷ bs) x
-    in-rest = rest-in F f bs t r a i w
+    in-rest = rest-in F f bs t r a
 
     abbrev zero-f : (x : ℕ) → InSpan 𝕎 rest x → F .at f x ≡ false
-    zero-f = first-zero F f bs t r a i w
+    zero-f = first-zero F f bs t r a
 
     partner-plus : (v : ℕ) → InSpan 𝕎 rest v → F .at s (v ⊕ f) ≡ true
-    partner-plus v h = F .right s v f ∙ ap₂ _⊻_ (partner-zero F f bs t r a i w v h) e-sf
+    partner-plus v h = F .right s v f ∙ ap₂ _⊻_ (partner-zero F f bs t r a v h) e-sf
 
     first-plus : (v : ℕ) → InSpan 𝕎 rest v → F .at f (v ⊕ f) ≡ false
     first-plus v h = F .right f v f ∙ ap₂ _⊻_ (zero-f v h) (a f in-f)
@@ -103,8 +103,8 @@ module _ (F : Form 𝕎) where
           absurd (i .0 (rw e (span-zero 𝕎 bs)))
       by (some t) r =
           let cs = map (clearedOfPair (F .at) f (t .partner)) (t .others) in
-          pair-before f bs t r a i w (go cs)
-          (ih cs (omega (arith, rest-less F f bs t r a i w)) (λ x h. a x (rest-in F f bs t r a i w x h)) (rest-indep F f bs t r a i w) (rest-whole F f bs t r a i w))
+          pair-before f bs t r a (go cs)
+          (ih cs (omega (arith, rest-less F f bs t r a)) (λ x h. a x (rest-in F f bs t r a x h)) (rest-indep F f bs t r a i) (rest-whole F f bs t r a w))
 
   pub simplex-made : (d : ℕ) (bs : List ℕ) → length bs ≤ d → Even 𝕎 F bs → Indep 𝕎 bs → Whole F bs → Simplex bs (symplecticSimplex (F .at) d bs)
   unfolding symplecticSimplex

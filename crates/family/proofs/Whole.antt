@@ -43,7 +43,7 @@ module _ (F : Form 𝕎) where
 
   -- ---- a vector that is peeled
 
-  module _ (bs : List ℕ) (i : Indep 𝕎 bs) (w : Whole bs) (p : ℕ) (e : F .at p p ≡ true) (h : InSpan 𝕎 bs p) where
+  module _ (bs : List ℕ) (p : ℕ) (e : F .at p p ≡ true) (h : InSpan 𝕎 bs p) where
     abbrev cs : List ℕ
     cs = complement (F .at p) bs
 
@@ -76,11 +76,11 @@ module _ (F : Form 𝕎) where
           (span-add 𝕎 bs y (select 0 (F .at p y) p) k (span-scale 𝕎 bs (F .at p y) p h)),
     )
 
-    pub rest-indep : Indep 𝕎 (complement (F .at p) bs)
-    rest-indep = steinitz-indep 𝕎 (p ∷ cs) bs i (All·map parts bs (span-members 𝕎 bs)) one-less .1
+    pub rest-indep : Indep 𝕎 bs → Indep 𝕎 (complement (F .at p) bs)
+    rest-indep i = steinitz-indep 𝕎 (p ∷ cs) bs i (All·map parts bs (span-members 𝕎 bs)) one-less .1
 
-    pub rest-whole : Whole (complement (F .at p) bs)
-    rest-whole x k z = eq-of-sum 𝕎 x (select 0 (F .at x p) p) none ∙ ap (λ t. select 0 t p) zero
+    pub rest-whole : Whole bs → Whole (complement (F .at p) bs)
+    rest-whole w x k z = eq-of-sum 𝕎 x (select 0 (F .at x p) p) none ∙ ap (λ t. select 0 t p) zero
       where
         x′ : ℕ
         x′ = x ⊕ select 0 (F .at x p) p
