@@ -6,6 +6,7 @@
 // passes on.
 mod levels; // levels.rt: the first space, and the draws that are kept
 mod remembers; // remembers.rt: a space looked up and entered, by its reduced basis
+mod words; // words.rt: words for a search, of four sizes
 
 use binar::Row;
 use binar::WIDTH;
@@ -299,22 +300,8 @@ pub fn congruence_triangularize(
     ensures remembered { λ r. ⌜ now (memory .exit) ≡ over (memoryWords (knownWithin budget (searchedCore (coreIn (now (core .entry))) (roomIn (now (memory .entry))) .memory))) (now (memory .entry)) ⌝ }
 {
     let k = blocks::lesser(WIDTH, blocks::rows_in(core));
-    if k <= 8 {
-        let mut basis = [0u64; 72];
-        let mut gram = [0u64; 72];
-        return searched(&mut basis, &mut gram, core, k, budget, memory, list);
-    }
-    if k <= 16 {
-        let mut basis = [0u64; 272];
-        let mut gram = [0u64; 272];
-        return searched(&mut basis, &mut gram, core, k, budget, memory, list);
-    }
     if k <= 32 {
-        let mut basis = [0u64; 1056];
-        let mut gram = [0u64; 1056];
-        return searched(&mut basis, &mut gram, core, k, budget, memory, list);
+        return words::searched_small(core, k, budget, memory, list);
     }
-    let mut basis = [0u64; 4160];
-    let mut gram = [0u64; 4160];
-    searched(&mut basis, &mut gram, core, k, budget, memory, list)
+    words::searched_large(core, k, budget, memory, list)
 }
