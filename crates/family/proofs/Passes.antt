@@ -91,8 +91,7 @@ module _ (n : ℕ) (F : List ℕ) (size : length F ≡ n + n) (bounded : All (λ
 
   -- only zero has form zero with all: its image pairs to zero with all
   core-whole : Whole (formOf (core n F)) us
-  core-whole x h k =
-      image-zero x h (nondegenerate n (image n F size symp x) low (λ z _. pairs z))
+  core-whole x h k = image-zero x h (nondegenerate n (image n F size symp x) low (λ z _. pairs z))
     where
       low : image n F size symp x < 2 ^ (n + n)
       low = subst (λ t. t < 2 ^ (n + n)) (sym (image-is n F size symp x)) (times-lt (n + n) (basis n F) (basis-lt n F size bounded) x)

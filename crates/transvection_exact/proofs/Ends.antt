@@ -65,14 +65,6 @@ module _ (n : ℕ) (F : List ℕ) (asked budget looks : ℕ) (out : List ℕ) (r
         ap₂ (λ (k : ℕ) (w : List ℕ). take k (rowsOfWords n w)) count-is (ap (λ (t : Reply). t .words) (a .is))
         ∙ laid-front n (rows-wide (a .few)) (a .list) out (a .shortest .fits) (le-trans (shortest-room n F (a .rows) (a .list) (a .shortest)) (a .lent))
 
-  refusal-left : (k l : ℕ) → r ≡ refused k l out → (r .words ≡ out) × (r .figures .count ≡ 0)
-  refusal-left k l e = (ap (λ (t : Reply). t .words) e, ap (λ (t : Reply). t .figures .count) e)
-
-  pub left-of : Ends n F asked budget looks out r → (r .figures .number ≡ 0 → ⊥) → (r .words ≡ out) × (r .figures .count ≡ 0)
-  left-of (early k a s e) z = refusal-left (suc k) 0 e
-  left-of (beyond a s e) z = refusal-left 6 budget e
-  left-of (answered vs a s f l k h e) z = absurd (z (ap (λ (t : Reply). t .figures .number) e))
-
   -- a refusal as a caller reads it: it lists nothing, and its looks are 0, at 6 the budget
   pub refusal-of : Ends n F asked budget looks out r → (k : ℕ) → r .figures .number ≡ suc k → r ≡ refused (suc k) (cond (eqb (suc k) 6) budget 0) out
   refusal-of (early j a s e) k z =

@@ -4,7 +4,6 @@ use mathlib.Core.Path.{_≡_, refl, sym, ap, _∙_, subst}
 use mathlib.Core.Bool.{Bool, true, false, cond}
 use mathlib.Core.List.{List}
 use Prim.Native.Nat.{ℕ, zero, suc, _+_, _^_, _≤_, _<_}
-use native.Mathlib.Omega.{arith}
 use lib.Dec.{leb, eqb}
 use lib.ListN.{length, take}
 use borrow.Author.Tests.{leb-true, leb-false}
@@ -13,6 +12,7 @@ use Rattle.blocks.specs.Words.{rowsOfWords}
 use Rattle.blocks.proofs.Values.{rows-count}
 use Rattle.symplectic.specs.Sizes.{maxQubits}
 use Rattle.symplectic.specs.Turns.{product}
+use Rattle.questions.specs.declared.Figures.{Figures}
 use Rattle.questions.specs.Replies.{Reply, refused, unlessRefused, actionQuestions, listQuestions}
 use Rattle.questions.proofs.Questions.{question-2, list-small, passed-size, passed-count, passed-rows, passed-symplectic, list-refused, list-or-short, list-known, reply-refused as refused-reply}
 use Rattle.triangular.specs.Search.{Outcome, looksOf, endedIf, budgeted}
@@ -21,7 +21,7 @@ use Rattle.transvection_exact.specs.NoneShorter.{NoneShorter}
 use Rattle.transvection_exact.specs.Minimal.{coreSearch, listAfter, searchedReply, minimalReply}
 use Rattle.transvection_exact.specs.Answers.{RankOrOneMore, EveryLayer}
 use Rattle.transvection_exact.proofs.Shortest.{ShortestList, RightOf, core-right, shortest-after}
-use Rattle.transvection_exact.proofs.Ends.{Ends, early, beyond, answered, Answer, answer, count-is, looks-are, taken-is, left-of, refusal-of, spent-of, of-spent, number-of}
+use Rattle.transvection_exact.proofs.Ends.{Ends, early, beyond, answered, Answer, answer, count-is, looks-are, taken-is, refusal-of, spent-of, of-spent, number-of}
 
 -- the reply of a call whose search, without a budget, has the outcome o
 abbrev pub replyFor : ℕ → List ℕ → ℕ → List ℕ → Outcome → Reply
@@ -103,9 +103,7 @@ module _ (n : ℕ) (words : List ℕ) (budget : ℕ) (out : List ℕ) where
       pub answered-looks : reply .figures .looks ≡ wanted
       answered-looks = looks-are n rows asked budget wanted out reply the
 
-    pub reply-left : (reply .figures .number ≡ 0 → ⊥) → (reply .words ≡ out) × (reply .figures .count ≡ 0)
-    reply-left = left-of n rows asked budget wanted out reply reply-ends
-
+    -- a refusal as a caller reads it
     pub reply-refused : (k : ℕ) → reply .figures .number ≡ suc k → reply .figures ≡ refused (suc k) (cond (eqb (suc k) 6) budget 0) out .figures
     reply-refused k z = ap (λ (r : Reply). r .figures) (refusal-of n rows asked budget wanted out reply reply-ends k z)
 
@@ -129,13 +127,9 @@ module _ (n : ℕ) (words : List ℕ) (budget : ℕ) (out : List ℕ) where
         go : (k : ℕ) → reply .figures .number ≡ k → All (λ v. v < 2 ^ (n + n)) (take (reply .figures .count) (rowsOfWords n (reply .words)))
         go zero z = answered-fits z
         go (suc k) z =
-            subst (λ (c : ℕ). All (λ v. v < 2 ^ (n + n)) (take c (rowsOfWords n (reply .words)))) (sym (reply-left (λ e. omega arith) .1)) tt
+            subst (λ (c : ℕ). All (λ v. v < 2 ^ (n + n)) (take c (rowsOfWords n (reply .words)))) (sym (ap (λ (t : Figures). t .count) (reply-refused k z))) tt
 
   -- ---- of document 01's search
-
-  pub refused-left : (minimalReply n words budget out .figures .number ≡ 0 → ⊥) → (minimalReply n words budget out .words ≡ out) × (minimalReply n words budget out .figures .count ≡ 0)
-  unfolding minimalReply
-  refused-left = reply-left (coreSearch n rows) (core-right n rows)
 
   pub minimal-refused : (k : ℕ) → minimalReply n words budget out .figures .number ≡ suc k
       → minimalReply n words budget out .figures ≡ refused (suc k) (cond (eqb (suc k) 6) budget 0) out .figures

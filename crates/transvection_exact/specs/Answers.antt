@@ -31,7 +31,7 @@ figuresOf (Spent looks) = record { number = 6; count = 0; looks = looks }
 abbrev pub Shortest : ℕ → List ℕ → Figures → Type 0
 Shortest n rows t = t .number ≡ 0 → NoneShorter n (rowsOfWords n rows) (t .count)
 
--- r where the core has a triangular basis, and r + 1 where it has none
+-- r, the count of V's rows and so the rank of I + F, where the core has a triangular basis, and r + 1 where it has none
 abbrev pub RankOrOneMore : ℕ → List ℕ → ℕ → Type 0
 RankOrOneMore n F count =
     let r = length (basis n F) in
