@@ -2,7 +2,7 @@
 -- span the space with one dimension more, so they span the space; and the turns of their images have the product of the action.
 -- Assumes nothing.
 use mathlib.Core.Path.{_≡_, refl, sym, ap, ap₂, _∙_, subst}
-use mathlib.Core.Bool.{Bool, true, false, _&&_}
+use mathlib.Core.Bool.{Bool, true, false, _&&_, and-false}
 use mathlib.Core.List.{List, _∷_, map}
 use Prim.Native.Nat.{ℕ, suc}
 use lib.ListN.{length, length-map}
@@ -84,9 +84,5 @@ module _ (S : VectorSpace) (ω : Pairing S) (N : Residue S ω) (ψ : ℕ → S .
       (border-spans E (core-right S ω N 𝕎 ψ ψ-add) bs l t w e (q .0) false (q .1)) z (All·any (λ x. at x (q .0) (q .2)) l)
       ∙ ap (λ t. S .add z t) (q .2)
     where
-      none-of : (b : Bool) → b && false ≡ false
-      none-of true = refl
-      none-of false = refl
-
       at : (x : ℕ × Bool) (q : ℕ) → φ S ω N 𝕎 ψ ψ-add q ≡ N .of z → ω .at (image x) z ≡ borderedForm E x (q, false)
-      at x q e = same-form S ω N 𝕎 ψ ψ-add (ψ (x .0)) z (ψ q) (sym e) ∙ sym (ap (λ t. E (x .0) q ⊻ t) (none-of (x .1)) ∙ add-zero 𝔹 (E (x .0) q))
+      at x q e = same-form S ω N 𝕎 ψ ψ-add (ψ (x .0)) z (ψ q) (sym e) ∙ sym (ap (λ t. E (x .0) q ⊻ t) (and-false (x .1)) ∙ add-zero 𝔹 (E (x .0) q))

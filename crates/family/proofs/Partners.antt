@@ -8,12 +8,13 @@ use mathlib.Core.Option.{Option, none, some}
 use Prim.Native.Nat.{ℕ, suc}
 use lib.ListN.{length, length-map}
 use Rattle.binar.specs.Bits.{_⊻_, select, _⊕_}
+use Rattle.binar.proofs.Sums.{bxor-self}
 use Rattle.blocks.specs.Matrices.{All}
 use Rattle.blocks.proofs.All.{All·map, All·any, All·of-map, All·to-map}
 use Rattle.linear.specs.VectorSpace.{scale}
 use Rattle.linear.specs.Span.{InSpan, Indep}
 use Rattle.linear.specs.Maps.{Form}
-use Rattle.linear.proofs.Sums.{eq-of-sum, scale-o}
+use Rattle.linear.proofs.Sums.{add-zero, eq-of-sum, scale-o}
 use Rattle.linear.proofs.Exchange.{span-add, span-scale, span-head, span-skip, span-members, span-trans, steinitz-indep}
 use Rattle.linear.proofs.Instances.{𝔹, 𝕎, scale-true}
 use Rattle.linear.proofs.Maps.{map-at, span-kernel}
@@ -97,20 +98,14 @@ module _ (F : Form 𝕎) where
     first-cleared : (y : ℕ) → F .at f (clear y) ≡ false
     first-cleared y =
         at-cleared f y ∙ ap₂ (λ p q. (F .at f y ⊻ scale 𝔹 (F .at s y) p) ⊻ scale 𝔹 (F .at f y) q) (a f first-in) first-partner
-        ∙ ap₂ (λ p q. (F .at f y ⊻ p) ⊻ q) (scale-o 𝔹 (F .at s y)) (scale-true (F .at f y)) ∙ cancel (F .at f y)
-      where
-        cancel : (b : Bool) → (b ⊻ false) ⊻ b ≡ false
-        cancel true = refl
-        cancel false = refl
+        ∙ ap₂ (λ p q. (F .at f y ⊻ p) ⊻ q) (scale-o 𝔹 (F .at s y)) (scale-true (F .at f y))
+        ∙ ap (λ p. p ⊻ F .at f y) (add-zero 𝔹 (F .at f y)) ∙ bxor-self (F .at f y)
 
     partner-cleared : (y : ℕ) → F .at s (clear y) ≡ false
     partner-cleared y =
         at-cleared s y ∙ ap₂ (λ p q. (F .at s y ⊻ scale 𝔹 (F .at s y) p) ⊻ scale 𝔹 (F .at f y) q) partner-first (a s partner-in)
-        ∙ ap₂ (λ p q. (F .at s y ⊻ p) ⊻ q) (scale-true (F .at s y)) (scale-o 𝔹 (F .at f y)) ∙ cancel (F .at s y)
-      where
-        cancel : (b : Bool) → (b ⊻ b) ⊻ false ≡ false
-        cancel true = refl
-        cancel false = refl
+        ∙ ap₂ (λ p q. (F .at s y ⊻ p) ⊻ q) (scale-true (F .at s y)) (scale-o 𝔹 (F .at f y))
+        ∙ add-zero 𝔹 (F .at s y ⊻ F .at s y) ∙ bxor-self (F .at s y)
 
     cleared-in : (y : ℕ) → InSpan 𝕎 (f ∷ bs) y → InSpan 𝕎 (f ∷ bs) (clear y)
     cleared-in y h =

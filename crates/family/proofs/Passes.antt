@@ -3,7 +3,7 @@
 -- Assumes nothing.
 use mathlib.Core.Path.{_≡_, refl, sym, ap, ap₂, _∙_, subst}
 use mathlib.Core.Bool.{Bool, true, false, _&&_, not}
-use mathlib.Core.List.{List, [], _∷_, map, map-map}
+use mathlib.Core.List.{List, [], _∷_, map-map}
 use mathlib.Core.Option.{Option, none, some}
 use Prim.Native.Nat.{ℕ, suc, _+_, _^_, _<_}
 use native.Mathlib.Omega.{arith}
@@ -24,16 +24,14 @@ use Rattle.symplectic.specs.Turns.{product, symplectic}
 use Rattle.symplectic.proofs.Lists.{true-all}
 use Rattle.symplectic.proofs.Matches.{all-fit, known-matches}
 use Rattle.symplectic.proofs.Pairings.{𝕡, nondegenerate}
-use Rattle.symplectic.proofs.Transvections.{act}
-use Rattle.symplectic.proofs.Products.{run-is-act}
-use Rattle.symplectic.proofs.Layers.{added, residueMap, product-of-adds}
+use Rattle.symplectic.proofs.Layers.{added, residueMap}
 use Rattle.symplectic.proofs.Wall.{Residue, φ-add, same-form}
 use Rattle.reduction.specs.Columns.{rank}
 use Rattle.reduction.proofs.Reduced.{indep-length, reduced-unique}
 use Rattle.reduction.proofs.Transform.{rank-plain}
 use Rattle.residue.specs.Residue.{basis, core, form}
 use Rattle.residue.proofs.Core.{lift-sum, basis-lt, core-length}
-use Rattle.residue.proofs.Coordinates.{lift, image, image-is, images, core-wall, images-indep, images-full}
+use Rattle.residue.proofs.Coordinates.{lift, image, image-is, core-wall, images-indep, images-full, product-of-images}
 use Rattle.residue.proofs.Forms.{formOf, form-right}
 use Rattle.triangular.specs.Bases.{TriangularBasis}
 use Rattle.triangular.proofs.Bases.{of-good}
@@ -65,6 +63,11 @@ full-rank r vs low to back =
 pub bordered-is : (n : ℕ) (F : List ℕ) → borderedList n F ≡ timesBasis n F (vectorsOf (coreFamily (core n F)))
 unfolding borderedList
 bordered-is n F = refl
+
+-- what is multiplied by V has 2n columns
+pub times-fits : (n : ℕ) (F : List ℕ) → length F ≡ n + n → All (λ f. f < 2 ^ (n + n)) F → (vs : List ℕ) → All (λ v. v < 2 ^ (n + n)) (timesBasis n F vs)
+times-fits n F size bounded vs =
+    All·to-map (λ p. times p (basis n F)) (λ v. v < 2 ^ (n + n)) vs (All·any (times-lt (n + n) (basis n F) (basis-lt n F size bounded)) vs)
 
 -- a list of r + 1 vectors of the action
 pub record Bordering (n : ℕ) (F vs : List ℕ) : Type 0 where
@@ -125,24 +128,15 @@ module _ (n : ℕ) (F : List ℕ) (size : length F ≡ n + n) (bounded : All (λ
     list-replays : product n (timesBasis n F (vectors l)) ≡ F
     list-replays =
         ap (product n) (map-map (λ p. times p (basis n F)) (λ a. a .0) l)
-        ∙ product-of-adds n F size vs
-        (λ z. run-is-act n vs z ∙ ap (λ m. act 𝕎 (𝕡 n) m z) (sym (images n F size symp (λ a. a .0) l))
-        ∙ border-product 𝕎 (𝕡 n) N (lift n F) (lift-sum n F) us (images-full n F size symp bounded) l
-        (subst (λ K. Tri (borderedForm K) l) (sym (core-wall n F size symp)) (b .0)) (b .1) one-more z)
-      where
-        vs : List ℕ
-        vs = map (λ a. times (a .0) (basis n F)) l
-
-    list-fits : All (λ v. v < 2 ^ (n + n)) (timesBasis n F (vectors l))
-    list-fits =
-        All·to-map (λ p. times p (basis n F)) (λ v. v < 2 ^ (n + n)) (vectors l)
-        (All·any (times-lt (n + n) (basis n F) (basis-lt n F size bounded)) (vectors l))
+        ∙ product-of-images n F size symp (λ a. a .0) l
+        (border-product 𝕎 (𝕡 n) N (lift n F) (lift-sum n F) us (images-full n F size symp bounded) l
+        (subst (λ K. Tri (borderedForm K) l) (sym (core-wall n F size symp)) (b .0)) (b .1) one-more)
 
     is-list : Bordering n F (timesBasis n F (vectors l))
     is-list = record {
       replays = list-replays;
       size = length-map (vectors l) (λ p. times p (basis n F)) ∙ length-map l (λ a. a .0) ∙ count;
-      fits = list-fits;
+      fits = times-fits n F size bounded (vectors l);
     }
 
     -- ---- the two checks
@@ -169,7 +163,7 @@ module _ (n : ℕ) (F : List ℕ) (size : length F ≡ n + n) (bounded : All (λ
     verified fails =
         let vs = timesBasis n F (vectors l) in
         ap₂ _&&_ (eq-eqb (length vs) (suc r) (is-list .size))
-        (ap₂ _&&_ (true-all (λ v. not (eqb v 0)) vs (All·map (λ v k. ap not (ne-eqb v 0 k)) vs nonzero)) (known-matches n F vs list-fits list-replays))
+        (ap₂ _&&_ (true-all (λ v. not (eqb v 0)) vs (All·map (λ v k. ap not (ne-eqb v 0 k)) vs nonzero)) (known-matches n F vs (is-list .fits) list-replays))
       where
         none-zero : (x : ℕ) → InSpan 𝕎 us x → (x ≡ 0 → Basis (formOf (core n F)) us) → times x (basis n F) ≡ 0 → ⊥
         none-zero x h g z =

@@ -31,7 +31,7 @@ module _ (f : ℕ → Bool) where
       go true q ih = ap suc (sym (length-map bs (λ y. y ⊕ select 0 (f y) m)))
       go false q ih = ap suc (ih (ap (λ t. t || anyOf f bs) (sym q) ∙ e))
 
-  any-keeps : (bs : List ℕ) → anyOf f bs ≡ false → complement f bs ≡ bs
+  pub any-keeps : (bs : List ℕ) → anyOf f bs ≡ false → complement f bs ≡ bs
   any-keeps [] e = complement-nil f
   any-keeps (m ∷ bs) e = complement-cons f m bs ∙ go (f m) refl (any-keeps bs)
     where

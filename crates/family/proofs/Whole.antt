@@ -2,9 +2,10 @@
 -- independent, and again such a space.
 -- Assumes nothing.
 use mathlib.Core.Path.{_≡_, refl, sym, ap, ap₂, _∙_}
-use mathlib.Core.Bool.{Bool, true, false, true≢false, _||_}
-use mathlib.Core.List.{List, [], _∷_}
+use mathlib.Core.Bool.{Bool, true, false}
+use mathlib.Core.List.{List, _∷_}
 use Prim.Native.Nat.{ℕ, suc}
+use native.Mathlib.Omega.{arith}
 use lib.ListN.{length}
 use Rattle.binar.specs.Bits.{_⊻_, select, _⊕_}
 use Rattle.binar.proofs.Sums.{bxor-self}
@@ -20,21 +21,7 @@ use Rattle.linear.proofs.Maps.{map-at, map-scale, span-kernel}
 use Rattle.triangular.specs.Spaces.{complement}
 use Rattle.triangular.proofs.Complements.{complement-in, complement-out, complement-length}
 use Rattle.family.specs.Family.{anyOf}
-
--- ---- a member to drop
-
-abbrev AnyOf : (ℕ → Bool) → List ℕ → Bool → Type 0
-AnyOf f bs true = Unit {0}
-AnyOf f bs false = All (λ y. f y ≡ false) bs
-
-any-none : (f : ℕ → Bool) (bs : List ℕ) → AnyOf f bs (anyOf f bs)
-any-none f [] = tt
-any-none f (y ∷ ys) = go (f y) refl (anyOf f ys) (any-none f ys)
-  where
-    go : (a : Bool) → f y ≡ a → (b : Bool) → AnyOf f ys b → AnyOf f (y ∷ ys) (a || b)
-    go true e b h = tt
-    go false e true h = tt
-    go false e false h = (e, h)
+use Rattle.family.proofs.Peeling.{any-keeps}
 
 module _ (F : Form 𝕎) where
   -- no member of the span but zero has form zero with all the span
@@ -47,15 +34,16 @@ module _ (F : Form 𝕎) where
     abbrev cs : List ℕ
     cs = complement (F .at p) bs
 
-    pub drops : anyOf (F .at p) bs ≡ true
-    drops = go (anyOf (F .at p) bs) (any-none (F .at p) bs)
-      where
-        go : (b : Bool) → AnyOf (F .at p) bs b → b ≡ true
-        go true k = refl
-        go false k = absurd (true≢false (sym e ∙ span-kernel 𝕎 𝔹 (F .at p) (F .right p) bs k p h))
-
     pub one-less : length bs ≡ suc (length (complement (F .at p) bs))
     one-less = complement-length (F .at p) (F .right p) bs p e h
+
+    -- a member is dropped
+    pub drops : anyOf (F .at p) bs ≡ true
+    drops = go (anyOf (F .at p) bs) refl
+      where
+        go : (b : Bool) → anyOf (F .at p) bs ≡ b → b ≡ true
+        go true k = refl
+        go false k = absurd (omega (arith, one-less, ap length (any-keeps (F .at p) bs k)))
 
     pub in-space : (x : ℕ) → InSpan 𝕎 (complement (F .at p) bs) x → InSpan 𝕎 bs x
     in-space x k = span-trans 𝕎 cs bs x (All·map (λ z m. m .0) cs (complement-in (F .at p) (F .right p) bs)) k

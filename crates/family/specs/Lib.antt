@@ -1,4 +1,4 @@
 pub mod Family
 pub mod Checks
-pub mod Readings
+pub mod Sizes
 pub mod inner

@@ -9,11 +9,13 @@ use Rattle.blocks.specs.Matrices.{times, units, All}
 use Rattle.blocks.proofs.Units.{times-units}
 use Rattle.linear.specs.Span.{InSpan, Indep}
 use Rattle.linear.proofs.Instances.{𝕎}
-use Rattle.symplectic.specs.Turns.{pairing, symplectic}
+use Rattle.symplectic.specs.Turns.{pairing, product, symplectic}
 use Rattle.symplectic.specs.inner.Vectors.{swapHalves}
 use Rattle.symplectic.proofs.Pairings.{𝕡}
-use Rattle.symplectic.proofs.Layers.{added, residueMap}
-use Rattle.symplectic.proofs.Wall.{φ, core as wallForm}
+use Rattle.symplectic.proofs.Transvections.{act}
+use Rattle.symplectic.proofs.Products.{run-is-act}
+use Rattle.symplectic.proofs.Layers.{added, residueMap, product-of-adds}
+use Rattle.symplectic.proofs.Wall.{φ, core as wallForm, Adds}
 use Rattle.residue.specs.Residue.{basis, transform, core, form}
 use Rattle.residue.proofs.Core.{lift-sum, basis-indep, basis-is, core-is, full}
 
@@ -29,7 +31,7 @@ module _ (n : ℕ) (F : List ℕ) (size : length F ≡ n + n) (symp : symplectic
   pub image-is : (p : ℕ) → image p ≡ times p (basis n F)
   image-is = basis-is n F size
 
-  pub images : {A : Type 0} (f : A → ℕ) (l : List A) → map (λ a. image (f a)) l ≡ map (λ a. times (f a) (basis n F)) l
+  images : {A : Type 0} (f : A → ℕ) (l : List A) → map (λ a. image (f a)) l ≡ map (λ a. times (f a) (basis n F)) l
   images f l = ap (λ g. map g l) (fun-ext (λ a. image-is (f a)))
 
   units-images : map image (units (length (basis n F))) ≡ basis n F
@@ -44,3 +46,10 @@ module _ (n : ℕ) (F : List ℕ) (size : length F ≡ n + n) (symp : symplectic
 
   pub images-full : All (λ f. f < 2 ^ (n + n)) F → (z : ℕ) → InSpan 𝕎 (map image (units (length (basis n F)))) (added n F z)
   images-full bounded z = subst (λ l. InSpan 𝕎 l (added n F z)) (sym units-images) (full n F size bounded z)
+
+  -- a list whose images add what F adds has the product F
+  pub product-of-images : {A : Type 0} (f : A → ℕ) (l : List A) → Adds 𝕎 (𝕡 n) (residueMap n F size symp) 𝕎 (lift n F) (lift-sum n F) (map (λ a. image (f a)) l)
+      → product n (map (λ a. times (f a) (basis n F)) l) ≡ F
+  product-of-images f l adds =
+      let vs = map (λ a. times (f a) (basis n F)) l in
+      product-of-adds n F size vs (λ z. run-is-act n vs z ∙ ap (λ m. act 𝕎 (𝕡 n) m z) (sym (images f l)) ∙ adds z)

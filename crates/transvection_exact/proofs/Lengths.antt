@@ -1,6 +1,6 @@
 -- The lengths of lists whose product is an action: none is below the rank r; those of r entries are the triangular bases of the core.
 -- Assumes nothing.
-use mathlib.Core.Path.{_≡_, sym, ap, _∙_, subst, subst₂}
+use mathlib.Core.Path.{_≡_, sym, _∙_, subst, subst₂}
 use mathlib.Core.Bool.{true}
 use mathlib.Core.List.{List}
 use Prim.Native.Nat.{ℕ, _+_, _^_, _<_}
@@ -15,12 +15,12 @@ use Rattle.symplectic.specs.Turns.{product, symplectic}
 use Rattle.symplectic.proofs.Pairings.{𝕡}
 use Rattle.symplectic.proofs.Transvections.{act}
 use Rattle.symplectic.proofs.Products.{run-is-act}
-use Rattle.symplectic.proofs.Layers.{added, residueMap, adds-of-product, product-of-adds}
+use Rattle.symplectic.proofs.Layers.{added, residueMap, adds-of-product}
 use Rattle.symplectic.proofs.Wall.{Residue, core as wallForm, at-least, good-of-shortest, product-of-good}
 use Rattle.residue.specs.Residue.{basis, core, form}
 use Rattle.residue.proofs.Core.{lift-sum}
 use Rattle.residue.proofs.Forms.{formOf}
-use Rattle.residue.proofs.Coordinates.{lift, images, core-wall, images-indep, images-full}
+use Rattle.residue.proofs.Coordinates.{lift, core-wall, images-indep, images-full, product-of-images}
 use Rattle.triangular.specs.Bases.{TriangularBasis}
 use Rattle.triangular.proofs.Bases.{of-good}
 use Rattle.triangular.proofs.Complete.{Is}
@@ -56,9 +56,7 @@ module _ (n : ℕ) (F : List ℕ) (size : length F ≡ n + n) (symp : symplectic
   pub list-of-basis : All (λ f. f < 2 ^ (n + n)) F → (ps : List ℕ) → (let r = length (basis n F) in Is (formOf (core n F)) r (units r) ps) → product n (timesBasis n F ps) ≡ F
   unfolding r
   list-of-basis bounded ps h =
-      product-of-adds n F size (timesBasis n F ps)
-      (λ z. run-is-act n (timesBasis n F ps) z ∙ ap (λ l. act 𝕎 (𝕡 n) l z) (sym (images n F size symp (λ p. p) ps))
-      ∙ product-of-good 𝕎 (𝕡 n) N 𝕎 (lift n F) (lift-sum n F) (units r) (images-full n F size symp bounded) good z)
+      product-of-images n F size symp (λ p. p) ps (product-of-good 𝕎 (𝕡 n) N 𝕎 (lift n F) (lift-sum n F) (units r) (images-full n F size symp bounded) good)
     where
       good : Good (wallForm 𝕎 (𝕡 n) N 𝕎 (lift n F) (lift-sum n F)) (InSpan 𝕎 (units r)) (length (units r))
       good = record {

@@ -9,19 +9,17 @@ use native.Mathlib.Nat.{eq-or-lt-of-le}
 use native.Mathlib.Omega.{arith}
 use lib.ListN.{length, length-map}
 use Rattle.blocks.specs.Matrices.{times, units, All}
-use Rattle.blocks.proofs.All.{All·any, All·to-map}
-use Rattle.blocks.proofs.Products.{times-lt}
 use Rattle.blocks.proofs.Units.{units-length}
 use Rattle.symplectic.specs.Turns.{product, symplectic}
 use Rattle.residue.specs.Residue.{basis, core}
-use Rattle.residue.proofs.Core.{basis-lt, basis-within}
+use Rattle.residue.proofs.Core.{basis-within}
 use Rattle.residue.proofs.Forms.{formOf}
 use Rattle.triangular.specs.Bases.{TriangularBasis}
 use Rattle.triangular.specs.Search.{Outcome, found, failed}
 use Rattle.triangular.proofs.Bases.{of-good, to-good}
 use Rattle.triangular.proofs.Complete.{Right, search-right}
 use Rattle.family.specs.Checks.{candidatePasses}
-use Rattle.family.proofs.Passes.{bordered-list, always-passes}
+use Rattle.family.proofs.Passes.{times-fits, bordered-list, always-passes}
 use Rattle.transvection_exact.specs.NoneShorter.{NoneShorter}
 use Rattle.transvection_exact.specs.Minimal.{coreSearch, listAfter}
 use Rattle.transvection_exact.specs.Answers.{RankOrOneMore}
@@ -64,7 +62,7 @@ module _ (n : ℕ) (F : List ℕ) (size : length F ≡ n + n) where
         record {
           replays = list-of-basis n F size symp bounded ps h;
           least = subst (NoneShorter n F) (sym long) (none-below-rank n F size symp);
-          fits = All·to-map (λ p. times p (basis n F)) (λ v. v < 2 ^ (n + n)) ps (All·any (times-lt (n + n) (basis n F) (basis-lt n F size bounded)) ps);
+          fits = times-fits n F size bounded ps;
           count = inl (of-good n F ps h, long);
         }
     shortest-after (failed looks) h =

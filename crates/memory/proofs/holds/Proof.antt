@@ -1,7 +1,7 @@
 -- `holds` looks at the entries one by one: those that are left hold the space just where all do.
 -- Assumes nothing.
 use mathlib.Core.Path.{_≡_, refl, sym, ap, ap₂, _∙_}
-use mathlib.Core.Bool.{Bool, true, false, _&&_, _||_}
+use mathlib.Core.Bool.{Bool, true, false, _&&_, _||_, and-false}
 use mathlib.Core.Logic.{_⊎_, inl, inr, ⊎-elim}
 use mathlib.Core.List.{List}
 use Prim.Native.Nat.{ℕ, suc, _+_, _-_, _/_, _≤_, _<_}
@@ -25,10 +25,6 @@ Inv-loop memory basis d at₀ left₀ at left =
 
 abbrev μ-loop : tie.MeasureT-loop
 μ-loop memory basis d at₀ left₀ at left = left
-
-and-false : (b : Bool) → b && false ≡ false
-and-false true = refl
-and-false false = refl
 
 -- at the start all the words are left
 loop-start : (ws rs : List ℕ) → heldIn (length ws / 65) rs (drop 0 ws) ≡ heldIn (roomIn ws) rs ws
