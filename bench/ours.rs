@@ -65,12 +65,14 @@ pub fn shorter(n: usize, rows: &[u64], first: &[u64], second: &[u64]) -> (u64, u
     (number, chosen)
 }
 
-/// The rows of a gate sequence.
+/// The rows of a sequence of our six gates.
 pub fn gate_rows(n: usize, gates: &[u8]) -> Vec<u64> {
     let mut rows = vec![0; 2 * n];
     let mut count = 0;
-    let number =
-        unsafe { turnlist_gates(n as u64, gates.as_ptr(), gates.len(), rows.as_mut_ptr(), rows.len(), &mut count) };
+    let (sheet, to) = (turnlist::SIX_GATES, rows.as_mut_ptr());
+    let number = unsafe {
+        turnlist_gates(n as u64, sheet.as_ptr(), sheet.len(), gates.as_ptr(), gates.len(), to, rows.len(), &mut count)
+    };
     assert_eq!((number, count), (0, 2 * n as u64), "the gate sequence is refused");
     rows
 }

@@ -1,5 +1,5 @@
-/* A layer by its gates, its turn lists, the action rebuilt from each, its fixed space, the shorter list, two refusals, and
- * what a memory saves. Run it by examples/run-c. */
+/* A layer by its gates, its turn lists, the action rebuilt from each, its fixed space, the shorter list, two refusals, what
+ * a memory saves, and a gate of a lab's own sheet. Run it by examples/run-c. */
 #include "turnlist.h"
 
 #include <inttypes.h>
@@ -7,7 +7,13 @@
 #include <string.h>
 
 enum { N = 3, ROWS = TURNLIST_ROWS(N), MINIMAL_WORDS = TURNLIST_MINIMAL_WORDS(N), GREEDY_WORDS = TURNLIST_GREEDY_WORDS(N),
-       MEMORY_WORDS = 16 * TURNLIST_ENTRY_WORDS };
+       MEMORY_WORDS = 16 * TURNLIST_ENTRY_WORDS, ISWAP = 3, SHEET_BYTES = 1024 };
+
+/* The gates that can be played: ours, until another sheet is loaded. */
+static struct {
+    const uint8_t *bytes;
+    size_t length;
+} in_force = {turnlist_six_gates, TURNLIST_SIX_GATES_BYTES};
 
 static const uint8_t layer[] = {
     TURNLIST_H, 0, 0, /* the last byte is not read */
@@ -29,6 +35,8 @@ static const char *const meanings[] = {
     "two equal qubits",
     NULL, NULL, /* 12 and 13 are refusals of a job file, which no call here takes */
     "neither list has the action for its product",
+    "a sheet whose counts, lines or offsets are wrong",
+    "a sheet with a turn that is zero, above 15, or on a second qubit that is not there",
 };
 
 /* Rows of an action whose search comes upon failed subspaces again. */
@@ -62,13 +70,49 @@ static int answered(uint64_t reply)
     return reply == TURNLIST_ANSWERED;
 }
 
-int main(void)
+/* Puts a sheet in force if it passes; if not, the former one stays. */
+static int load(const uint8_t *bytes, size_t length)
+{
+    if (!answered(turnlist_sheet(bytes, length)))
+        return 0;
+    in_force.bytes = bytes;
+    in_force.length = length;
+    return 1;
+}
+
+/* Loads the sheet of a file, and lists a gate of it; then a sheet that is refused. */
+static int lab(const char *path)
+{
+    static uint8_t sheet[SHEET_BYTES];
+    static const uint8_t swap_first[] = {ISWAP, 0, 1};
+    uint64_t action[ROWS], minimal[MINIMAL_WORDS], count, looks;
+    FILE *file = fopen(path, "rb");
+    size_t length = file ? fread(sheet, 1, sizeof sheet, file) : 0;
+    if (file)
+        fclose(file);
+
+    if (!load(sheet, length))
+        return 1;
+    printf("the lab's own sheet: %d gates\n", in_force.bytes[0]);
+    if (!answered(turnlist_gates(N, in_force.bytes, in_force.length, swap_first, sizeof swap_first, action, ROWS, &count))
+        || !answered(turnlist_minimal(N, action, ROWS, 1000000, minimal, MINIMAL_WORDS, &count, &looks)))
+        return 1;
+    printf("its iSWAP on qubits 0 and 1, minimal: %" PRIu64 " turns:", count);
+    print_letters(minimal, count);
+
+    printf("the sheet without its last byte: ");
+    load(sheet, length - 1);
+    printf("in force: %d bytes\n", (int)in_force.length);
+    return 0;
+}
+
+int main(int argc, char **argv)
 {
     uint64_t action[ROWS], minimal[MINIMAL_WORDS], greedy[GREEDY_WORDS], fixed[ROWS];
     uint64_t count, minimal_count, greedy_count, looks, chosen;
     uint64_t memory[MEMORY_WORDS];
 
-    if (!answered(turnlist_gates(N, layer, sizeof layer, action, ROWS, &count)))
+    if (!answered(turnlist_gates(N, in_force.bytes, in_force.length, layer, sizeof layer, action, ROWS, &count)))
         return 1;
     printf("layer on %d qubits: H 0, CX 1 2\n", N);
 
@@ -108,5 +152,5 @@ int main(void)
                                                minimal, MINIMAL_WORDS, &count, &looks)))
         return 1;
     printf(" with a memory of 16 failed subspaces %" PRIu64 "\n", looks);
-    return 0;
+    return argc < 2 ? 0 : lab(argv[1]);
 }

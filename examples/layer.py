@@ -1,10 +1,11 @@
-"""A layer by its gates, its turn lists, the action rebuilt from each, its fixed space, the shorter list, two refusals, and
-what a memory saves. Run it by examples/run-python."""
+"""A layer by its gates, its turn lists, the action rebuilt from each, its fixed space, the shorter list, two refusals, what a
+memory saves, and a gate of a lab's own sheet. Run it by examples/run-python."""
 import sys
 
-from turnlist import CX, ENTRY_WORDS, H, Refusal, Turnlist, words
+from turnlist import CX, ENTRY_WORDS, H, SIX_GATES, Refusal, Turnlist, words
 
 N = 3
+ISWAP = 3  # of the lab's sheet
 HARDER = [0x16, 0x1a, 0x2b, 0x07, 0x05, 0x04]  # rows of an action whose search comes upon failed subspaces again
 
 
@@ -13,13 +14,13 @@ def letters(vectors):
     return " ".join("".join("IXZY"[v >> q & 1 | (v >> N + q & 1) << 1] for q in range(N)) for v in vectors)
 
 
-def main(path):
+def main(path, sheet_path):
     library = Turnlist(path)
 
     def compared(turns):
         return "the same action" if library.rebuild(N, turns) == action else "another action"
 
-    action = library.gates(N, [(H, 0, 0), (CX, 1, 2)])
+    action = library.gates(N, SIX_GATES, [(H, 0, 0), (CX, 1, 2)])
     print(f"layer on {N} qubits: H 0, CX 1 2")
 
     minimal, looks = library.minimal(N, action, 1_000_000)
@@ -50,5 +51,17 @@ def main(path):
     _, fewer = library.minimal_remembering(N, HARDER, 1_000_000, words([0] * (16 * ENTRY_WORDS)))
     print(f"a harder layer: {looks} looks, with a memory of 16 failed subspaces {fewer}")
 
+    with open(sheet_path, "rb") as f:
+        sheet = f.read()
+    in_force, number = library.load_sheet(sheet, SIX_GATES)
+    if number:
+        raise Refusal(number)
+    print(f"the lab's own sheet: {in_force[0]} gates")
+    minimal, _ = library.minimal(N, library.gates(N, in_force, [(ISWAP, 0, 1)]), 1_000_000)
+    print(f"its iSWAP on qubits 0 and 1, minimal: {len(minimal)} turns: {letters(minimal)}")
+    in_force, number = library.load_sheet(sheet[:-1], in_force)
+    print(f"the sheet without its last byte: {Refusal(number)}")
+    print(f"in force: {len(in_force)} bytes")
 
-main(sys.argv[1])
+
+main(*sys.argv[1:3])

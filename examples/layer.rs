@@ -1,11 +1,15 @@
-//! A layer by its gates, its turn lists, the action rebuilt from each, its fixed space, the shorter list, two refusals, and
-//! what a memory saves. Run it by examples/run-rust.
+//! A layer by its gates, its turn lists, the action rebuilt from each, its fixed space, the shorter list, two refusals, what
+//! a memory saves, and a gate of a lab's own sheet. Run it by examples/run-rust.
 #[allow(dead_code)] // not every gate is used here
 mod turnlist;
 
-use turnlist::{Refusal, CX, H};
+use std::error::Error;
+use turnlist::{Refusal, CX, H, SIX_GATES};
 
 const N: u64 = 3;
+
+/// Of the lab's sheet.
+const ISWAP: u8 = 3;
 
 /// Rows of an action whose search comes upon failed subspaces again.
 const HARDER: [u64; 6] = [0x16, 0x1a, 0x2b, 0x07, 0x05, 0x04];
@@ -22,8 +26,24 @@ fn compared(list: &[u64], action: &[u64]) -> Result<&'static str, Refusal> {
     Ok(if turnlist::rebuild(N, list)? == action { "the same action" } else { "another action" })
 }
 
-fn main() -> Result<(), Refusal> {
-    let action = turnlist::gates(N, &[[H, 0, 0], [CX, 1, 2]])?;
+/// Loads the sheet of a file, and lists a gate of it; then a sheet that is refused.
+fn lab(path: &str) -> Result<(), Box<dyn Error>> {
+    let sheet = std::fs::read(path)?;
+    let (in_force, reply) = turnlist::load_sheet(&sheet, &SIX_GATES);
+    reply?;
+    println!("the lab's own sheet: {} gates", in_force[0]);
+    let turns = turnlist::minimal(N, &turnlist::gates(N, in_force, &[[ISWAP, 0, 1]])?, 1_000_000)?.turns;
+    println!("its iSWAP on qubits 0 and 1, minimal: {} turns: {}", turns.len(), letters(&turns));
+    let (in_force, reply) = turnlist::load_sheet(&sheet[..sheet.len() - 1], in_force);
+    if let Err(refusal) = reply {
+        println!("the sheet without its last byte: {refusal}");
+    }
+    println!("in force: {} bytes", in_force.len());
+    Ok(())
+}
+
+fn main() -> Result<(), Box<dyn Error>> {
+    let action = turnlist::gates(N, &SIX_GATES, &[[H, 0, 0], [CX, 1, 2]])?;
     println!("layer on {N} qubits: H 0, CX 1 2");
 
     let minimal = turnlist::minimal(N, &action, 1_000_000)?;
@@ -53,5 +73,5 @@ fn main() -> Result<(), Refusal> {
     let mut memory = [0; 16 * turnlist::ENTRY_WORDS];
     let fewer = turnlist::minimal_remembering(N, &HARDER, 1_000_000, &mut memory)?.looks;
     println!("a harder layer: {looks} looks, with a memory of 16 failed subspaces {fewer}");
-    Ok(())
+    std::env::args().nth(1).map_or(Ok(()), |path| lab(&path))
 }

@@ -2,6 +2,9 @@
 written, or one of the lists itself, and a refusal is raised."""
 import ctypes
 
+SIX_GATES = bytes([
+    6, 1, 1, 25, 0, 1, 1, 26, 0, 1, 1, 27, 0, 2, 3, 28, 0, 2, 3, 31, 0, 2, 3, 34, 0, 5, 4, 1, 4, 6, 2, 4, 12, 8, 3, 15, 12,
+])  # our six gates as a sheet
 H, S, ROOT_X, CX, CZ, SWAP = range(6)
 MOST_QUBITS = 32
 ENTRY_WORDS = 65  # of a memory, for one failed subspace
@@ -20,6 +23,8 @@ MEANINGS = (
     "two equal qubits",
     None, None,  # 12 and 13 are refusals of a job file, which no call here takes
     "neither list has the action for its product",
+    "a sheet whose counts, lines or offsets are wrong",
+    "a sheet with a turn that is zero, above 15, or on a second qubit that is not there",
 )
 WORD = ctypes.c_uint64
 WORDS = ctypes.POINTER(WORD)
@@ -47,6 +52,10 @@ def words(numbers):
     return lent(WORD, numbers, 1 << 64)
 
 
+def octets(numbers):
+    return lent(ctypes.c_uint8, numbers, 256)
+
+
 def word(number):
     return words([number])[0]
 
@@ -61,7 +70,8 @@ class Turnlist:
         self._fixed_space = self._call(library.turnlist_fixed_space, [WORD, WORDS, LENGTH, *lending])
         self._rebuild = self._call(library.turnlist_rebuild, [WORD, WORDS, LENGTH, *lending])
         self._shorter = self._call(library.turnlist_shorter, [WORD, *[WORDS, LENGTH] * 3, WORDS])
-        self._gates = self._call(library.turnlist_gates, [WORD, BYTES, LENGTH, *lending])
+        self._sheet = self._call(library.turnlist_sheet, [BYTES, LENGTH])
+        self._gates = self._call(library.turnlist_gates, [WORD, *[BYTES, LENGTH] * 2, *lending])
 
     @staticmethod
     def _call(function, argtypes):
@@ -113,7 +123,13 @@ class Turnlist:
         self._answered(self._shorter(word(n), words(rows), len(rows), *lists, ctypes.byref(chosen)))
         return first if chosen.value == 1 else second
 
-    def gates(self, n, gates):
-        """The 2n rows of the action of a sequence of gates, each its number, a and b; gates on one qubit do not read b."""
-        flat = lent(ctypes.c_uint8, [part for number, a, b in gates for part in (number, a, b)], 256)
-        return self._written(self._gates, 2 * min(n, MOST_QUBITS), word(n), flat, len(flat))
+    def load_sheet(self, sheet, former):
+        """The sheet in force from now on, and the number: the sheet and 0 if it passes its questions, else the former one."""
+        number = self._sheet(octets(sheet), len(sheet))
+        return (former if number else sheet), number
+
+    def gates(self, n, sheet, gates):
+        """The 2n rows of the action of a sequence of gates of the sheet, each its number, a and b; gates on one qubit do not
+        read b."""
+        flat = octets([part for number, a, b in gates for part in (number, a, b)])
+        return self._written(self._gates, 2 * min(n, MOST_QUBITS), word(n), octets(sheet), len(sheet), flat, len(flat))

@@ -2,6 +2,11 @@
 //! an answer is a `Vec` of as many words as were written, or one of the slices itself.
 use std::fmt;
 
+/// Our six gates as a sheet, the bytes of `turnlist_six_gates`.
+pub const SIX_GATES: [u8; 37] = [
+    6, 1, 1, 25, 0, 1, 1, 26, 0, 1, 1, 27, 0, 2, 3, 28, 0, 2, 3, 31, 0, 2, 3, 34, 0, 5, 4, 1, 4, 6, 2, 4, 12, 8, 3, 15, 12,
+];
+
 pub const H: u8 = 0;
 pub const S: u8 = 1;
 pub const ROOT_X: u8 = 2;
@@ -37,10 +42,12 @@ pub enum Refusal {
     QubitTooHigh,
     EqualQubits,
     NeitherMatches = 14,
+    MalformedSheet,
+    BadTurn,
 }
 
 impl Refusal {
-    const ALL: [Refusal; 11] = [
+    const ALL: [Refusal; 13] = [
         Refusal::TooManyQubits,
         Refusal::WrongRowCount,
         Refusal::RowTooWide,
@@ -52,6 +59,8 @@ impl Refusal {
         Refusal::QubitTooHigh,
         Refusal::EqualQubits,
         Refusal::NeitherMatches,
+        Refusal::MalformedSheet,
+        Refusal::BadTurn,
     ];
 
     /// The refusal that a call returns this number for.
@@ -72,6 +81,8 @@ impl Refusal {
             Refusal::QubitTooHigh => "a qubit that is not there",
             Refusal::EqualQubits => "two equal qubits",
             Refusal::NeitherMatches => "neither list has the action for its product",
+            Refusal::MalformedSheet => "a sheet whose counts, lines or offsets are wrong",
+            Refusal::BadTurn => "a sheet with a turn that is zero, above 15, or on a second qubit that is not there",
         }
     }
 }
@@ -152,14 +163,22 @@ pub fn shorter<'a>(n: u64, rows: &[u64], first: &'a [u64], second: &'a [u64]) ->
     Ok(if chosen == 1 { first } else { second })
 }
 
-/// The 2n rows of the action of a sequence of gates.
-pub fn gates(n: u64, gates: &[Gate]) -> Result<Vec<u64>, Refusal> {
+/// The sheet in force from now on: the lent one if it passes its questions, else the former one; and the refusal.
+pub fn load_sheet<'a>(lent: &'a [u8], former: &'a [u8]) -> (&'a [u8], Result<(), Refusal>) {
+    // SAFETY: as in `minimal`.
+    let reply = answered(unsafe { turnlist_sheet(lent.as_ptr(), lent.len()) });
+    (if reply.is_ok() { lent } else { former }, reply)
+}
+
+/// The 2n rows of the action of a sequence of gates of a sheet.
+pub fn gates(n: u64, sheet: &[u8], gates: &[Gate]) -> Result<Vec<u64>, Refusal> {
     let bytes = gates.as_flattened();
     let mut out = [0; 2 * MOST_QUBITS];
     let mut count = 0;
+    let (to, room) = (out.as_mut_ptr(), row_count(n));
     // SAFETY: as in `rebuild`.
     let reply = unsafe {
-        turnlist_gates(n, bytes.as_ptr(), bytes.len(), out.as_mut_ptr(), row_count(n), &mut count)
+        turnlist_gates(n, sheet.as_ptr(), sheet.len(), bytes.as_ptr(), bytes.len(), to, room, &mut count)
     };
     written(reply, &out, count)
 }
@@ -220,5 +239,15 @@ extern "C" {
         second_len: usize,
         chosen: *mut u64,
     ) -> u64;
-    pub fn turnlist_gates(n: u64, gates: *const u8, byte_count: usize, out: *mut u64, out_len: usize, count: *mut u64) -> u64;
+    pub fn turnlist_sheet(sheet: *const u8, sheet_len: usize) -> u64;
+    pub fn turnlist_gates(
+        n: u64,
+        sheet: *const u8,
+        sheet_len: usize,
+        gates: *const u8,
+        byte_count: usize,
+        out: *mut u64,
+        out_len: usize,
+        count: *mut u64,
+    ) -> u64;
 }

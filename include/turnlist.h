@@ -12,13 +12,14 @@
  * Each call asks its questions in the order of its refusals below, and returns the number of the first one answered no.
  *
  *   - 0: an answer. *count says how many words stand at the start of out, and the words past them are unchanged.
- *     turnlist_shorter lists nothing: *chosen says which of the lent lists is the answer.
+ *     turnlist_shorter lists nothing: *chosen says which of the lent lists is the answer. turnlist_sheet has nothing to
+ *     say but its number.
  *   - Any other number: a refusal. Nothing is listed, and every lent word is unchanged, *count, *looks and *chosen too;
  *     but a lent memory may change at 6.
  *
  * What the caller owes, and nothing checks:
  *
- *   - Each pointer is aligned, and valid for as many words (gates: bytes) as the length behind it says. Where
+ *   - Each pointer is aligned, and valid for as many words (sheet, gates: bytes) as the length behind it says. Where
  *     that length is 0 the pointer is not followed, and may be null. count, looks and chosen are never null.
  *   - What is lent for writing (out, memory, count, looks, chosen) overlaps nothing else that is lent, and no other
  *     thread touches it during the call. What is lent for reading is not written during the call, and may overlap.
@@ -57,13 +58,15 @@ enum turnlist_reply {
     TURNLIST_OUTPUT_TOO_SHORT = 5, /* too few output words */
     TURNLIST_SPENT = 6,            /* the search would look further than the budget */
     TURNLIST_VECTOR_TOO_WIDE = 8,  /* a vector has a bit from 2n up */
-    TURNLIST_UNKNOWN_GATE = 9,     /* a gate number above 5 */
+    TURNLIST_UNKNOWN_GATE = 9,     /* a gate that is not on the sheet */
     TURNLIST_QUBIT_TOO_HIGH = 10,  /* a qubit that is not below n */
     TURNLIST_EQUAL_QUBITS = 11,    /* the two qubits of a gate are equal */
-    TURNLIST_NEITHER_MATCHES = 14  /* neither list has the action for its product */
+    TURNLIST_NEITHER_MATCHES = 14, /* neither list has the action for its product */
+    TURNLIST_MALFORMED_SHEET = 15, /* a sheet whose counts, lines or offsets are wrong */
+    TURNLIST_BAD_TURN = 16         /* a sheet with a turn that is zero, above 15, or on a second qubit that is not there */
 };
 
-/* The gates that turnlist_gates knows. */
+/* The gates of turnlist_six_gates. */
 enum turnlist_gate {
     TURNLIST_H = 0,      /* a */
     TURNLIST_S = 1,      /* a */
@@ -71,6 +74,14 @@ enum turnlist_gate {
     TURNLIST_CX = 3,     /* a b */
     TURNLIST_CZ = 4,     /* a b */
     TURNLIST_SWAP = 5    /* a b */
+};
+
+/* Our six gates as a sheet. See turnlist_sheet for its form. */
+#define TURNLIST_SIX_GATES_BYTES 37
+static const uint8_t turnlist_six_gates[TURNLIST_SIX_GATES_BYTES] = {
+    6,                                                                                             /* gates */
+    1, 1, 25, 0, 1, 1, 26, 0, 1, 1, 27, 0, 2, 3, 28, 0, 2, 3, 31, 0, 2, 3, 34, 0,                  /* their lines */
+    5, 4, 1, 4, 6, 2, 4, 12, 8, 3, 15, 12,                                                         /* their turns */
 };
 
 /* The minimal list of an action: *count turns whose product is the action, and no list of it is shorter.
@@ -128,12 +139,26 @@ uint64_t turnlist_rebuild(uint64_t n, const uint64_t *vectors, size_t vector_cou
 uint64_t turnlist_shorter(uint64_t n, const uint64_t *rows, size_t row_count, const uint64_t *first, size_t first_len,
                           const uint64_t *second, size_t second_len, uint64_t *chosen);
 
+/* Whether a gate sheet can be put in force: 0, or the number of its refusal.
+ *
+ * Byte 0 is the gate count, 1 to 64. Each gate then has 4 bytes: its qubit count (1 or 2), its turn count (0 to 6), and the
+ * offset of its turns from the sheet's start, 16 bits, little-endian. A turn is one byte: bit 0 is x of the first qubit, bit
+ * 1 x of the second, bits 2 and 3 are their z. The turns of gates may overlap each other and the table, and a sheet may be
+ * longer than what it uses.
+ *
+ * Refuses with 15 if a count is missing or out of its range, a gate's 4 bytes are cut short, or an offset plus its turn
+ * count passes the sheet's length; then, once the whole sheet passes that, with 16 if a turn is zero, above 15, or touches
+ * the second qubit of a one-qubit gate. The sheet in force stays with the caller: one that is refused leaves the former. */
+uint64_t turnlist_sheet(const uint8_t *sheet, size_t sheet_len);
+
 /* The action of a sequence of gates: its 2n rows, and *count is 2n.
  *
- * A gate is 3 bytes: its number, a, b. Gates on one qubit do not read b. Bytes short of a last whole gate are not read.
+ * A gate is 3 bytes: its number on the sheet in force, counted from 0, a, b. Gates on one qubit do not read b. Bytes short
+ * of a last whole gate are not read. A gate without turns changes nothing, but its questions are asked.
  *
- * Wants exactly 2n output words. Refuses with 1, 2 (of the output words); then gate by gate with 9, 10, 11. */
-uint64_t turnlist_gates(uint64_t n, const uint8_t *gates, size_t byte_count,
+ * Wants exactly 2n output words. Refuses with 1, 2 (of the output words), 15, 16 (of the sheet); then gate by gate with 9,
+ * 10, 11. */
+uint64_t turnlist_gates(uint64_t n, const uint8_t *sheet, size_t sheet_len, const uint8_t *gates, size_t byte_count,
                         uint64_t *out, size_t out_len, uint64_t *count);
 
 #ifdef __cplusplus

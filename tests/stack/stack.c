@@ -8,7 +8,7 @@
 #include <string.h>
 #include "turnlist.h"
 
-enum { QUBITS = TURNLIST_MOST_QUBITS, ROOM = 1 << 20, BYTES = 3 * 8 * QUBITS, MEMORY = 6500, PATTERN = 0xa5, CALLS = 7 };
+enum { QUBITS = TURNLIST_MOST_QUBITS, ROOM = 1 << 20, BYTES = 3 * 8 * QUBITS, MEMORY = 6500, PATTERN = 0xa5, CALLS = 8 };
 
 static unsigned char *stack;
 static uint64_t state = 1;
@@ -41,7 +41,7 @@ static void *run(void *lent) {
         turnlist_rebuild(QUBITS, w->list, w->count, w->rows, rows, &w->count);
         break;
     case 4:
-        turnlist_gates(QUBITS, w->gates, BYTES, w->rows, rows, &w->count);
+        turnlist_gates(QUBITS, turnlist_six_gates, TURNLIST_SIX_GATES_BYTES, w->gates, BYTES, w->rows, rows, &w->count);
         break;
     case 5:
         turnlist_fixed_space(QUBITS, w->rows, rows, w->list, rows, &w->count);
@@ -52,6 +52,9 @@ static void *run(void *lent) {
     case 7:
         turnlist_minimal_remembering(QUBITS, w->rows, rows, 100000, w->memory, MEMORY, w->minimal,
                                      TURNLIST_MINIMAL_WORDS(QUBITS), &w->minimal_count, &w->looks);
+        break;
+    case 8:
+        w->count = turnlist_sheet(turnlist_six_gates, TURNLIST_SIX_GATES_BYTES);
         break;
     }
     return NULL;
@@ -88,7 +91,7 @@ int main(void) {
     static struct work w;
     static const char *const names[] = {
         "", "turnlist_minimal", "turnlist_greedy", "turnlist_rebuild", "turnlist_gates", "turnlist_fixed_space",
-        "turnlist_shorter", "turnlist_minimal_remembering",
+        "turnlist_shorter", "turnlist_minimal_remembering", "turnlist_sheet",
     };
     size_t most[CALLS + 1] = {0}, bare;
     stack = aligned_alloc(4096, ROOM);
@@ -96,7 +99,7 @@ int main(void) {
     bare = used(&w, 0);
     for (int i = 0; i < 200; i++) {
         layer(&w, i % 6, i % 6 == 0 ? QUBITS : 8 * QUBITS);
-        int order[CALLS] = {4, 1, 7, 5, 2, 6, 3}; /* the greedy list is held against the minimal one, then rebuilt */
+        int order[CALLS] = {4, 1, 7, 5, 2, 6, 3, 8}; /* the greedy list is held against the minimal one, then rebuilt */
         for (int k = 0; k < CALLS; k++) {
             size_t bytes = used(&w, order[k]) - bare;
             if (most[order[k]] < bytes) most[order[k]] = bytes;

@@ -1,9 +1,9 @@
--- What is computed: every starred example of document 01, and those of the fixed space, of the shorter list, of the commutation chart and of a lent memory, as the definitions answer them.
+-- What is computed: every starred example of document 01, and those of the fixed space, of the shorter list, of the commutation chart, of a lent memory and of gate sheets, as the definitions answer them.
 -- Assumes nothing.
 use mathlib.Core.Path.{_≡_, refl}
 use mathlib.Core.Bool.{true, false}
 use mathlib.Core.List.{[], _∷_, map, zip, zipWith, flatten}
-use Rattle.bench_examples.specs.Table.{Example, answer, table, memories}
+use Rattle.bench_examples.specs.Table.{Example, answer, table, memories, sheets}
 use Rattle.binar.specs.Bits.{odd, bit, _⊕_, weight, dot}
 use Rattle.blocks.specs.Matrices.{times, units, dots}
 use Rattle.blocks.specs.Words.{rowsOfWords, wordOf, wordsOfRows, laid, over}
@@ -23,20 +23,26 @@ use Rattle.family.specs.Checks.{unitLower, validate, verifiesBordered, candidat
 use Rattle.transvection.specs.Greedy.{besideBasis, firstNonzero, nextTransvection, recorded, greedyList, greedyReply}
 use Rattle.transvection_exact.specs.Minimal.{coreSearch, minimalReply, coreSearchWith, rememberingReply, memoryLeft}
 use Rattle.memory.specs.Entries.{entryWords, memoryWords, roomIn}
-use Rattle.gates.specs.Sequences.{readsTwo, gateQuestions, sequenceQuestions, sequenceTurns, gatesReply}
-use Rattle.gates.specs.Sheet.{sheet, gate, turnVector}
-use Rattle.job.specs.Files.{littleEndian, part, number, qubitCount, entryCount, entry, partSize, entryPasses, entriesPass, fileQuestions}
+use Rattle.sheets.specs.Sheets.{gateCount, line as sheetLine, linesFrom, lines, gateOf, gatesOf, lineFits, wellFormed, turnFits, gateFits, sheetQuestions}
+use Rattle.sheets.specs.Six.{table as ourTable, sixGates}
+use Rattle.gates.specs.Sequences.{turnVector, gate, readsTwo, gateQuestions, sequenceQuestions, sequenceTurns, sequenceReply, gatesReply, tableReply}
+use Rattle.numbers.specs.Numbers.{littleEndian, part, number}
+use Rattle.job.specs.Files.{qubitCount, entryCount, entry, partSize, entryPasses, entriesPass, fileQuestions}
 use Rattle.letters.specs.Letters.{letter, vector, lettersFrom, letters, spelling}
 use Rattle.lines.specs.Lines.{decimalIn, decimal, touchedFrom, touched, load, spelled, line, fileLine}
 use Rattle.printout.specs.Printout.{wordsOfBytes, entryAction, entryLine, entryLines, fileLines, printout}
 
 pub starred : map (λ (e : Example). answer (e .call)) table ≡ map (λ (e : Example). e .expected) table
-unfolding table answer zip zipWith flatten odd bit _⊕_ weight dot times units dots rowsOfWords wordOf wordsOfRows laid firstOne unevenWith firstUneven pick fitAll sizeQuestion countQuestion actionQuestions listQuestions xBits zBits pairing turn followed product pairAlike symplectic identityPlus columns rowReduceWithTransform rank residue reduction basis transform timesTransposed core form kernel reducedBasis fixedSpace fixedReply shorterOf shorterReply partOf draws search budgeted complement symmetricWith isAlternating matches borderedList splitAt withPartner fromFirst symplecticSimplex peeled borderedFamily vectorsOf besideBasis firstNonzero nextTransvection recorded greedyList greedyReply coreSearch minimalReply readsTwo gateQuestions sequenceQuestions sequenceTurns gatesReply sheet gate turnVector littleEndian part number qubitCount entryCount entry partSize entryPasses entriesPass fileQuestions letter vector lettersFrom letters spelling decimalIn decimal touchedFrom touched load spelled line fileLine wordsOfBytes entryAction entryLine entryLines fileLines printout
+unfolding table answer zip zipWith flatten odd bit _⊕_ weight dot times units dots rowsOfWords wordOf wordsOfRows laid firstOne unevenWith firstUneven pick fitAll sizeQuestion countQuestion actionQuestions listQuestions xBits zBits pairing turn followed product pairAlike symplectic identityPlus columns rowReduceWithTransform rank residue reduction basis transform timesTransposed core form kernel reducedBasis fixedSpace fixedReply shorterOf shorterReply partOf draws search budgeted complement symmetricWith isAlternating matches borderedList splitAt withPartner fromFirst symplecticSimplex peeled borderedFamily vectorsOf besideBasis firstNonzero nextTransvection recorded greedyList greedyReply coreSearch minimalReply gateCount sheetLine linesFrom lines gateOf gatesOf lineFits wellFormed turnFits gateFits sheetQuestions ourTable sixGates turnVector gate readsTwo gateQuestions sequenceQuestions sequenceTurns sequenceReply gatesReply tableReply littleEndian part number qubitCount entryCount entry partSize entryPasses entriesPass fileQuestions letter vector lettersFrom letters spelling decimalIn decimal touchedFrom touched load spelled line fileLine wordsOfBytes entryAction entryLine entryLines fileLines printout
 starred = refl
 
 pub remembered : map (λ (e : Example). answer (e .call)) memories ≡ map (λ (e : Example). e .expected) memories
-unfolding memories answer zip zipWith flatten odd bit _⊕_ weight dot times units dots rowsOfWords wordOf wordsOfRows laid firstOne unevenWith firstUneven pick fitAll sizeQuestion countQuestion actionQuestions listQuestions xBits zBits pairing turn followed product pairAlike symplectic identityPlus columns rowReduceWithTransform rank residue reduction basis transform timesTransposed core form kernel reducedBasis fixedSpace fixedReply shorterOf shorterReply partOf draws search budgeted complement symmetricWith isAlternating matches borderedList splitAt withPartner fromFirst symplecticSimplex peeled borderedFamily vectorsOf besideBasis firstNonzero nextTransvection recorded greedyList greedyReply coreSearch minimalReply coreSearchWith rememberingReply memoryLeft entryBasis isSpace holds enter drawsWith searchWith knownWithin entryWords memoryWords roomIn over readsTwo gateQuestions sequenceQuestions sequenceTurns gatesReply sheet gate turnVector littleEndian part number qubitCount entryCount entry partSize entryPasses entriesPass fileQuestions letter vector lettersFrom letters spelling decimalIn decimal touchedFrom touched load spelled line fileLine wordsOfBytes entryAction entryLine entryLines fileLines printout
+unfolding memories answer zip zipWith flatten odd bit _⊕_ weight dot times units dots rowsOfWords wordOf wordsOfRows laid firstOne unevenWith firstUneven pick fitAll sizeQuestion countQuestion actionQuestions listQuestions xBits zBits pairing turn followed product pairAlike symplectic identityPlus columns rowReduceWithTransform rank residue reduction basis transform timesTransposed core form kernel reducedBasis fixedSpace fixedReply shorterOf shorterReply partOf draws search budgeted complement symmetricWith isAlternating matches borderedList splitAt withPartner fromFirst symplecticSimplex peeled borderedFamily vectorsOf besideBasis firstNonzero nextTransvection recorded greedyList greedyReply coreSearch minimalReply coreSearchWith rememberingReply memoryLeft entryBasis isSpace holds enter drawsWith searchWith knownWithin entryWords memoryWords roomIn over gateCount sheetLine linesFrom lines gateOf gatesOf lineFits wellFormed turnFits gateFits sheetQuestions ourTable sixGates turnVector gate readsTwo gateQuestions sequenceQuestions sequenceTurns sequenceReply gatesReply tableReply littleEndian part number qubitCount entryCount entry partSize entryPasses entriesPass fileQuestions letter vector lettersFrom letters spelling decimalIn decimal touchedFrom touched load spelled line fileLine wordsOfBytes entryAction entryLine entryLines fileLines printout
 remembered = refl
+
+pub loaded : map (λ (e : Example). answer (e .call)) sheets ≡ map (λ (e : Example). e .expected) sheets
+unfolding sheets answer odd bit _⊕_ weight dot units rowsOfWords wordOf wordsOfRows laid sizeQuestion countQuestion xBits zBits pairing turn followed product gateCount sheetLine linesFrom lines gateOf gatesOf lineFits wellFormed turnFits gateFits sheetQuestions sixGates turnVector gate readsTwo gateQuestions sequenceQuestions sequenceTurns sequenceReply gatesReply littleEndian part number
+loaded = refl
 
 -- document 01's checks of a bordered candidate: that of a SWAP passes, that of the identity, which has a triangular basis, does not
 pub checked : map (candidatePasses 2) ((2 ∷ 1 ∷ 8 ∷ 4 ∷ []) ∷ (1 ∷ 2 ∷ 4 ∷ 8 ∷ []) ∷ []) ≡ true ∷ false ∷ []

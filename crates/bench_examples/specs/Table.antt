@@ -1,15 +1,17 @@
--- The starred bench examples of document 01, and examples of the fixed space, of the shorter list, of the commutation chart and of a lent
--- memory (document 02, items 3 to 6), as one table of calls and expected answers.
+-- The starred bench examples of document 01, and examples of the fixed space, of the shorter list, of the commutation chart, of a lent
+-- memory and of gate sheets (document 02, items 3 to 6 and 8), as tables of calls and expected answers.
 -- Expected values are literals.
 -- In each call the lent output words and memory hold 9 at entry, so that the words left unchanged can be seen. The actions of H and CX are made
--- from the gate sheet.
+-- from document 01's gate sheet.
 -- Assumes nothing.
 use mathlib.Core.List.{List, [], _∷_, _++_, map}
 use Prim.Native.Nat.{ℕ, _+_, _-_}
 use lib.ListN.{length, replicate}
 use Rattle.binar.specs.Bits.{digit}
 use Rattle.questions.specs.Replies.{Reply}
-use Rattle.gates.specs.Sequences.{gatesReply}
+use Rattle.sheets.specs.Sheets.{sheetQuestions, inForce}
+use Rattle.sheets.specs.Six.{sixGates}
+use Rattle.gates.specs.Sequences.{gatesReply, tableReply}
 use Rattle.shorter.specs.declared.Chosen.{Chosen}
 use Rattle.shorter.specs.Shorter.{shorterReply, partOf}
 use Rattle.fixed_space.specs.FixedSpace.{fixedReply}
@@ -32,8 +34,10 @@ pub data Call : Type 0 where
   fixed : ℕ → List ℕ → ℕ → Call
   -- n, rows, the first list, the second list
   shorter : ℕ → List ℕ → List ℕ → List ℕ → Call
-  -- n, the bytes of a gate sequence, how many output rows are lent
-  gates : ℕ → List ℕ → ℕ → Call
+  -- n, the sheet in force, the bytes of a gate sequence, how many output rows are lent
+  gates : ℕ → List ℕ → List ℕ → ℕ → Call
+  -- a lent sheet, and the one that was in force
+  load : List ℕ → List ℕ → Call
   -- the bytes of a job file
   job : List ℕ → Call
   -- a row of the chart
@@ -47,6 +51,8 @@ pub data Answer : Type 0 where
   recalls : ℕ → ℕ → ℕ → List ℕ → List ℕ → Answer
   -- number, which list, and the part that comes back
   picks : ℕ → ℕ → List ℕ → Answer
+  -- number, and the sheet in force
+  puts : ℕ → List ℕ → Answer
   -- the bytes printed
   shown : List ℕ → Answer
   -- what the letter pairs to with I, X, Y, Z
@@ -71,13 +77,14 @@ answer (remembering n rows budget words lent) = let memory : List ℕ = replicat
 answer (greedy n rows lent) = replied (greedyReply n rows (replicate lent 9))
 answer (fixed n rows lent) = replied (fixedReply n rows (replicate lent 9))
 answer (shorter n rows first second) = picked first second (shorterReply n rows first second)
-answer (gates n bytes lent) = replied (gatesReply n bytes (replicate lent 9))
+answer (gates n sheet bytes lent) = replied (gatesReply n sheet bytes (replicate lent 9))
+answer (load lent former) = puts (sheetQuestions lent) (inForce (sheetQuestions lent) lent former)
 answer (job file) = shown (printout file)
 answer (charted a) = pairs (map (λ b. digit (chart a b)) alphabet)
 
 -- the rows of a gate sequence: gate, a, b for each gate
 abbrev pub played : ℕ → List ℕ → List ℕ
-played n bytes = gatesReply n bytes (replicate (n + n) 9) .words
+played n bytes = tableReply n bytes (replicate (n + n) 9) .words
 
 pub record Example : Type 0 where
   pub call : Call
@@ -116,7 +123,7 @@ table =
     ∷ (minimal 33 [] 1000000 3 gives replies 1 0 0 (9 ∷ 9 ∷ 9 ∷ []))
     ∷ (greedy 33 [] 3 gives replies 1 0 0 (9 ∷ 9 ∷ 9 ∷ []))
     -- CX 1 1, n = 2: 11
-    ∷ (gates 2 (3 ∷ 1 ∷ 1 ∷ []) 4 gives replies 11 0 0 (9 ∷ 9 ∷ 9 ∷ 9 ∷ []))
+    ∷ (gates 2 sixGates (3 ∷ 1 ∷ 1 ∷ []) 4 gives replies 11 0 0 (9 ∷ 9 ∷ 9 ∷ 9 ∷ []))
     -- the fixed space: n = 0: none; identity, n = 2: all; H: Y; CX 0 1: IX ZI; SWAP: XX ZZ, and the words behind them unchanged
     ∷ (fixed 0 [] 0 gives replies 0 0 0 [])
     ∷ (fixed 2 (1 ∷ 2 ∷ 4 ∷ 8 ∷ []) 4 gives replies 0 4 0 (1 ∷ 2 ∷ 4 ∷ 8 ∷ []))
@@ -167,4 +174,53 @@ memories =
     -- a word too few for an entry; and an output word too few: 5
     ∷ (remembering 2 (played 2 (3 ∷ 0 ∷ 1 ∷ [])) 0 64 5 gives recalls 0 3 0 (4 ∷ 6 ∷ 2 ∷ 9 ∷ 9 ∷ []) (replicate 64 9))
     ∷ (remembering 2 (played 2 (3 ∷ 0 ∷ 1 ∷ [])) 0 65 4 gives recalls 5 0 0 (9 ∷ 9 ∷ 9 ∷ 9 ∷ []) (replicate 65 9))
+    ∷ []
+
+-- a sheet of one gate: its line, and what stands behind it
+abbrev pub oneGate : ℕ → ℕ → ℕ → List ℕ → List ℕ
+oneGate qubits count offset behind = 1 ∷ qubits ∷ count ∷ offset ∷ 0 ∷ behind
+
+-- those of gate sheets, loaded over our six gates
+unfoldable pub sheets : List Example
+sheets =
+    -- a sheet that passes is in force; our own is one
+    (load (oneGate 1 1 5 (5 ∷ [])) sixGates gives puts 0 (oneGate 1 1 5 (5 ∷ [])))
+    ∷ (load sixGates (oneGate 1 1 5 (5 ∷ [])) gives puts 0 sixGates)
+    -- 15: an empty sheet; no gates; 65 gates; a line that is cut short
+    ∷ (load [] sixGates gives puts 15 sixGates)
+    ∷ (load (0 ∷ 0 ∷ []) sixGates gives puts 15 sixGates)
+    ∷ (load (65 ∷ replicate 300 1) sixGates gives puts 15 sixGates)
+    ∷ (load (1 ∷ 1 ∷ 0 ∷ 0 ∷ []) sixGates gives puts 15 sixGates)
+    -- no qubits, three qubits; seven turns
+    ∷ (load (oneGate 0 1 5 (5 ∷ [])) sixGates gives puts 15 sixGates)
+    ∷ (load (oneGate 3 1 5 (5 ∷ [])) sixGates gives puts 15 sixGates)
+    ∷ (load (oneGate 1 7 5 (replicate 9 1)) sixGates gives puts 15 sixGates)
+    -- turns that end where the sheet ends, and one further; no turns at its end, and past it
+    ∷ (load (oneGate 2 2 5 (3 ∷ 15 ∷ [])) sixGates gives puts 0 (oneGate 2 2 5 (3 ∷ 15 ∷ [])))
+    ∷ (load (oneGate 2 2 6 (3 ∷ 15 ∷ [])) sixGates gives puts 15 sixGates)
+    ∷ (load (oneGate 2 0 5 []) sixGates gives puts 0 (oneGate 2 0 5 []))
+    ∷ (load (oneGate 2 0 6 []) sixGates gives puts 15 sixGates)
+    -- 16: a turn that is zero; above 15; on the second qubit of a gate of one, by its x and by its z
+    ∷ (load (oneGate 2 1 5 (0 ∷ [])) sixGates gives puts 16 sixGates)
+    ∷ (load (oneGate 2 1 5 (16 ∷ [])) sixGates gives puts 16 sixGates)
+    ∷ (load (oneGate 1 1 5 (2 ∷ [])) sixGates gives puts 16 sixGates)
+    ∷ (load (oneGate 1 1 5 (8 ∷ [])) sixGates gives puts 16 sixGates)
+    -- the whole sheet passes 15 first: gate 0 has a zero turn, gate 1 three qubits
+    ∷ (load (2 ∷ 1 ∷ 1 ∷ 9 ∷ 0 ∷ 3 ∷ 0 ∷ 9 ∷ 0 ∷ 0 ∷ []) sixGates gives puts 15 sixGates)
+    -- a turn that is the line's own qubit count: Xb
+    ∷ (gates 2 (oneGate 2 1 1 []) (0 ∷ 0 ∷ 1 ∷ []) 4 gives replies 0 4 0 (1 ∷ 2 ∷ 4 ∷ 10 ∷ []))
+    -- iSWAP 0 1: XX, YY
+    ∷ (gates 2 (oneGate 2 2 5 (3 ∷ 15 ∷ [])) (0 ∷ 0 ∷ 1 ∷ []) 4 gives replies 0 4 0 (14 ∷ 13 ∷ 8 ∷ 4 ∷ []))
+    -- b is not read for a gate of one qubit
+    ∷ (gates 1 (oneGate 1 1 5 (5 ∷ [])) (0 ∷ 0 ∷ 200 ∷ []) 2 gives replies 0 2 0 (2 ∷ 1 ∷ []))
+    -- a gate of no turns changes nothing, but its questions are asked: 10, 11; and gate 1 is not there: 9
+    ∷ (gates 2 (oneGate 2 0 5 []) (0 ∷ 0 ∷ 1 ∷ []) 4 gives replies 0 4 0 (1 ∷ 2 ∷ 4 ∷ 8 ∷ []))
+    ∷ (gates 2 (oneGate 2 0 5 []) (0 ∷ 0 ∷ 2 ∷ []) 4 gives replies 10 0 0 (9 ∷ 9 ∷ 9 ∷ 9 ∷ []))
+    ∷ (gates 2 (oneGate 2 0 5 []) (0 ∷ 1 ∷ 1 ∷ []) 4 gives replies 11 0 0 (9 ∷ 9 ∷ 9 ∷ 9 ∷ []))
+    ∷ (gates 2 (oneGate 2 0 5 []) (1 ∷ 0 ∷ 1 ∷ []) 4 gives replies 9 0 0 (9 ∷ 9 ∷ 9 ∷ 9 ∷ []))
+    -- the order of the questions: 1, 2, 15, 16, then the gates
+    ∷ (gates 33 [] (1 ∷ 0 ∷ 1 ∷ []) 3 gives replies 1 0 0 (9 ∷ 9 ∷ 9 ∷ []))
+    ∷ (gates 2 [] (1 ∷ 0 ∷ 1 ∷ []) 3 gives replies 2 0 0 (9 ∷ 9 ∷ 9 ∷ []))
+    ∷ (gates 2 [] (1 ∷ 0 ∷ 1 ∷ []) 4 gives replies 15 0 0 (9 ∷ 9 ∷ 9 ∷ 9 ∷ []))
+    ∷ (gates 2 (oneGate 1 1 5 (2 ∷ [])) [] 4 gives replies 16 0 0 (9 ∷ 9 ∷ 9 ∷ 9 ∷ []))
     ∷ []

@@ -37,10 +37,11 @@ fn greedy_identity(name: &[u8], out: &mut [u64]) {
     io::write_all(STDOUT_FILENO, b"\n");
 }
 
-// A gate sequence on 2 qubits.
+// A sequence of our six gates on 2 qubits.
 fn sequence(name: &[u8], bytes: &[u8]) {
     let mut out = [0u64; 4];
-    let a = gates::figures_of(gates::gate_action(2, bytes, &mut out));
+    let sheet = sheets::six_gates();
+    let a = gates::figures_of(gates::gate_action(2, &sheet, bytes, &mut out));
     print_answer(name, a);
     if a.number == 0 {
         print_rows(&out);

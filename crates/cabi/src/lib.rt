@@ -14,6 +14,7 @@ ghost use Rattle.transvection.specs.Greedy.{greedyReply};
 ghost use Rattle.memory.specs.Entries.{roomIn};
 ghost use Rattle.transvection_exact.specs.Minimal.{minimalReply, rememberingReply, memoryLeft};
 ghost use Rattle.transvection_exact.specs.Answers.{Shortest, Exact, ExactWith, AsWithout, EveryLayer};
+ghost use Rattle.sheets.specs.Sheets.{gatesOf, sheetQuestions};
 ghost use Rattle.gates.specs.Sequences.{sequenceTurns, gatesReply};
 ghost use Rattle.questions.specs.Answers.{lentNumber};
 ghost use Rattle.cabi.specs.Lent.{readFigures, PlainlyLent};
@@ -153,15 +154,29 @@ pub extern "C" fn turnlist_shorter(
     shorter.number
 }
 
-// The action of a gate sequence, three bytes a gate.
+// The questions of a gate sheet: 0 where it passes and may be put in force.
 #[no_mangle]
-pub extern "C" fn turnlist_gates(n: u64, gates: &[u8], out: &mut [u64], count: &mut u64) -> u64
-    ensures answered { λ r. ⌜ r ≡ gatesReply n (now (gates .entry)) (now (out .entry)) .figures .number ⌝ }
-    ensures left { λ r. ⌜ now (out .exit) ≡ gatesReply n (now (gates .entry)) (now (out .entry)) .words ⌝ }
-    ensures counted { λ r. ⌜ now (count .exit) ≡ lentNumber r (gatesReply n (now (gates .entry)) (now (out .entry)) .figures .count) (now (count .entry)) ⌝ }
-    ensures replays { λ r. ⌜ Rebuilds n (sequenceTurns n (now (gates .entry))) (now (out .exit)) (readFigures 0 r (now (count .exit)) 0) ⌝ }
+pub extern "C" fn turnlist_sheet(sheet: &[u8]) -> u64
+    ensures { λ r. ⌜ r ≡ sheetQuestions (now (sheet .entry)) ⌝ }
 {
-    let answer = gates::gate_action(n, gates, out);
+    sheets::number_of(sheets::sheet_questions(sheet))
+}
+
+// The action of a gate sequence, three bytes a gate, with the sheet in force.
+#[no_mangle]
+pub extern "C" fn turnlist_gates(
+    n: u64,
+    sheet: &[u8],
+    gates: &[u8],
+    out: &mut [u64],
+    count: &mut u64,
+) -> u64
+    ensures answered { λ r. ⌜ r ≡ gatesReply n (now (sheet .entry)) (now (gates .entry)) (now (out .entry)) .figures .number ⌝ }
+    ensures left { λ r. ⌜ now (out .exit) ≡ gatesReply n (now (sheet .entry)) (now (gates .entry)) (now (out .entry)) .words ⌝ }
+    ensures counted { λ r. ⌜ now (count .exit) ≡ lentNumber r (gatesReply n (now (sheet .entry)) (now (gates .entry)) (now (out .entry)) .figures .count) (now (count .entry)) ⌝ }
+    ensures replays { λ r. ⌜ Rebuilds n (sequenceTurns n (gatesOf (now (sheet .entry))) (now (gates .entry))) (now (out .exit)) (readFigures 0 r (now (count .exit)) 0) ⌝ }
+{
+    let answer = gates::gate_action(n, sheet, gates, out);
     let action = gates::figures_of(answer);
     questions::tell(action.number, action.count, count);
     action.number

@@ -1,4 +1,6 @@
 pub mod Turned
 pub mod Asked
 pub mod Narrow
+pub mod Lined
 pub mod Replied
+pub mod SixGates

@@ -3,17 +3,21 @@
 use mathlib.Core.Path.{_≡_, refl}
 use mathlib.Core.Bool.{Bool, true, false}
 use mathlib.Core.List.{List, [], _∷_, map}
-use Prim.Native.Nat.{ℕ, zero, suc, _+_, _^_, _<_}
+use Prim.Native.Nat.{ℕ, _+_, _^_, _<_}
 use native.Mathlib.Omega.{arith}
+use lib.Dec.{ltb}
+use lib.ListN.{length}
 use lib.Pow.{pow-pos, pow-lt}
 use Rattle.binar.specs.Bits.{select, bit}
 use Rattle.binar.proofs.Sums.{sum-lt}
 use Rattle.blocks.specs.Matrices.{All}
 use Rattle.blocks.proofs.All.{All·map, All·to-map, All·append}
-use Rattle.questions.specs.Replies.{andThen}
-use Rattle.gates.specs.Sheet.{gate, turnVector}
-use Rattle.gates.specs.Sequences.{gateQuestions, sequenceQuestions, sequenceTurns}
-use Rattle.gates.proofs.Turned.{Second, second-read}
+use Rattle.symplectic.specs.Turns.{allOf}
+use Rattle.questions.proofs.Questions.{then-known}
+use Rattle.sheets.specs.Sheets.{Gate, gateFits}
+use Rattle.sheets.specs.inner.Seconds.{Second}
+use Rattle.sheets.proofs.Checks.{no-turns, gate-second}
+use Rattle.gates.specs.Sequences.{turnVector, gate, readsTwo, gateQuestions, sequenceQuestions, sequenceTurns}
 use Rattle.gates.proofs.Asked.{gate-known}
 
 power-lt : (m c : ℕ) (t : Bool) → (t ≡ true → c < m) → select 0 t (2 ^ c) < 2 ^ m
@@ -34,18 +38,19 @@ module _ (n a b : ℕ) (first : a < n) where
   turns-lt : (codes : List ℕ) → All (Second (b < n)) codes → All (λ v. v < 2 ^ (n + n)) (map (turnVector n a b) codes)
   turns-lt codes h = All·to-map (turnVector n a b) (λ v. v < 2 ^ (n + n)) codes (All·map vector-lt codes h)
 
--- the questions of one kind are passed, and those of the other
-both : (first later : ℕ) → andThen first later ≡ 0 → (first ≡ 0) × (later ≡ 0)
-both zero later e = (refl, e)
-both (suc k) later e = absurd (omega arith)
+-- the turns of a gate that was asked of, where the gates fit
+pub turns-second : (P : Type 0) (gates : List Gate) → allOf gateFits gates ≡ true → (g : ℕ) → (readsTwo (gate gates g) ≡ true → P) → All (Second P) (gate gates g .turns)
+unfolding readsTwo gate
+turns-second P gates fit = gate-second P gates (record { qubits = 0; turns = [] }) (no-turns 0) fit
 
-pub sequence-lt : (n : ℕ) (l : List ℕ) → sequenceQuestions n l ≡ 0 → All (λ v. v < 2 ^ (n + n)) (sequenceTurns n l)
+pub sequence-lt : (n : ℕ) (gates : List Gate) → allOf gateFits gates ≡ true → (l : List ℕ) → sequenceQuestions n gates l ≡ 0 → All (λ v. v < 2 ^ (n + n)) (sequenceTurns n gates l)
 unfolding sequenceQuestions sequenceTurns
-sequence-lt n [] e = tt
-sequence-lt n (g ∷ []) e = tt
-sequence-lt n (g ∷ a ∷ []) e = tt
-sequence-lt n (g ∷ a ∷ b ∷ l) e =
-    let k = both (gateQuestions n g a b) (sequenceQuestions n l) e in
-    let known = gate-known n g a b (k .0) in
-    All·append (λ v. v < 2 ^ (n + n)) (map (turnVector n a b) (gate g .turns)) (sequenceTurns n l)
-    (turns-lt n a b (known .0) (gate g .turns) (second-read (b < n) g (known .1))) (sequence-lt n l (k .1))
+sequence-lt n gates fit [] e = tt
+sequence-lt n gates fit (g ∷ []) e = tt
+sequence-lt n gates fit (g ∷ a ∷ []) e = tt
+sequence-lt n gates fit (g ∷ a ∷ b ∷ l) e =
+    let two = readsTwo (gate gates g) in
+    let k = then-known (gateQuestions n (ltb g (length gates)) two a b) (sequenceQuestions n gates l) e in
+    let known = gate-known n a b (ltb g (length gates)) two (k .0) in
+    All·append (λ v. v < 2 ^ (n + n)) (map (turnVector n a b) (gate gates g .turns)) (sequenceTurns n gates l)
+    (turns-lt n a b (known .1) (gate gates g .turns) (turns-second (b < n) gates fit g (known .2))) (sequence-lt n gates fit l (k .1))

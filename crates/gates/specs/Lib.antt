@@ -1,4 +1,3 @@
-pub mod Sheet
 pub mod Sequences
 pub mod Answers
 pub mod inner

@@ -1,11 +1,12 @@
 -- The job file: little-endian; n, the entry count k, k entries of 8 bytes, and their parts, which may overlap.
 -- Assumes nothing.
 use mathlib.Core.Bool.{Bool, true, _&&_}
-use mathlib.Core.List.{List, [], _∷_}
+use mathlib.Core.List.{List}
 use Prim.Native.Nat.{ℕ, zero, suc, _+_, _*_}
 use lib.Dec.{eqb, leb, ltb}
-use lib.ListN.{length, take, drop}
+use lib.ListN.{length}
 use Rattle.questions.specs.Replies.{ask, sizeQuestion}
+use Rattle.numbers.specs.Numbers.{number}
 
 -- the most bytes of a file, those before its entries, and those of an entry. Plain numbers, open to users
 abbrev pub longestFile : ℕ
@@ -16,18 +17,6 @@ headSize = 4
 
 abbrev pub entrySize : ℕ
 entrySize = 8
-
--- a little-endian number
-unfoldable pub littleEndian : List ℕ → ℕ
-littleEndian [] = 0
-littleEndian (b ∷ bs) = b + 256 * littleEndian bs
-
--- `size` bytes of a file from `offset`
-unfoldable pub part : List ℕ → ℕ → ℕ → List ℕ
-part file offset size = take size (drop offset file)
-
-unfoldable pub number : List ℕ → ℕ → ℕ → ℕ
-number file offset size = littleEndian (part file offset size)
 
 -- bytes 0-1: n; bytes 2-3: the entry count
 unfoldable pub qubitCount : List ℕ → ℕ

@@ -1,9 +1,9 @@
 // The job file, read from lent bytes: its numbers, its entries, and the questions of the whole file.
 // Not in the source.
 ghost use mathlib.Core.Path.{_≡_};
-ghost use Prim.Native.Nat.{_+_, _*_, _^_, _<_, _≤_};
-ghost use lib.ListN.{getD};
-ghost use Rattle.job.specs.Files.{number as numberIn, qubitCount, entryCount, entry, partSize, entryPasses, entriesPass, fileQuestions};
+ghost use Prim.Native.Nat.{_+_, _*_, _<_};
+ghost use Rattle.numbers.specs.Numbers.{number};
+ghost use Rattle.job.specs.Files.{qubitCount, entryCount, entry, partSize, entryPasses, entriesPass, fileQuestions};
 ghost use Rattle.job.specs.Answers.{entryOf, numberOf};
 
 // The most bytes of a file, those before its entries, and those of an entry.
@@ -34,56 +34,26 @@ pub enum FileAnswer {
 
 // ---- numbers
 
-// The byte i behind `from`. Past the end, 0.
-fn byte_at(file: &[u8], from: u64, i: u64) -> u64
-    ensures { λ r. ⌜ (r ≡ getD (now (file .entry)) (from + i) 0) × (r < 256) ⌝ }
-{
-    let length = file.len() as u64;
-    if length <= from {
-        return 0;
-    }
-    if length - from <= i {
-        return 0;
-    }
-    let at = (from + i) as usize;
-    file[at] as u64
-}
-
-// The little-endian number of at most 8 bytes that stands `skip` bytes behind `from`.
-fn number(file: &[u8], from: u64, skip: u64, size: u64) -> u64
-    requires { ⌜ (size ≤ 8) × (skip + size ≤ 2 ^ 64) ⌝ }
-    ensures { λ r. ⌜ (r ≡ numberIn (now (file .entry)) (from + skip) size) × (r < 256 ^ size) ⌝ }
-{
-    let mut v: u64 = 0;
-    let mut i = size;
-    while 0 < i {
-        i -= 1;
-        let b = byte_at(file, from, skip + i);
-        v = b + 256 * v;
-    }
-    v
-}
-
 pub fn qubit_count(file: &[u8]) -> u64
     ensures { λ r. ⌜ r ≡ qubitCount (now (file .entry)) ⌝ }
 {
-    number(file, 0, 0, 2)
+    numbers::number_at(file, 0, 0, 2)
 }
 
 pub fn entry_count(file: &[u8]) -> u64
     ensures { λ r. ⌜ (r ≡ entryCount (now (file .entry))) × (r < 65536) ⌝ }
 {
-    number(file, 2, 0, 2)
+    numbers::number_at(file, 2, 0, 2)
 }
 
 // Word k of the part that begins at `offset`. Past the end, 0.
 pub fn word_at(file: &[u8], offset: u64, k: u64) -> u64
-    ensures { λ r. ⌜ r ≡ numberIn (now (file .entry)) (offset + 8 * k) 8 ⌝ }
+    ensures { λ r. ⌜ r ≡ number (now (file .entry)) (offset + 8 * k) 8 ⌝ }
 {
     if LAST_INDEX < k {
         return 0;
     }
-    number(file, offset, 8 * k, 8)
+    numbers::number_at(file, offset, 8 * k, 8)
 }
 
 // ---- entries
@@ -101,10 +71,10 @@ pub fn entry_at(file: &[u8], i: u64) -> Item
         };
     }
     let at = ENTRY_SIZE * i;
-    let kind = number(file, HEAD_SIZE, at, 1) as u8;
-    let zero_byte = number(file, HEAD_SIZE, at + 1, 1) as u8;
-    let count = number(file, HEAD_SIZE, at + 2, 2) as u16;
-    let offset = number(file, HEAD_SIZE, at + 4, 4) as u32;
+    let kind = numbers::number_at(file, HEAD_SIZE, at, 1) as u8;
+    let zero_byte = numbers::number_at(file, HEAD_SIZE, at + 1, 1) as u8;
+    let count = numbers::number_at(file, HEAD_SIZE, at + 2, 2) as u16;
+    let offset = numbers::number_at(file, HEAD_SIZE, at + 4, 4) as u32;
     Item {
         kind: kind,
         zero_byte: zero_byte,

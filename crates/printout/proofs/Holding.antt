@@ -9,9 +9,10 @@ use lib.ListN.{length, take, drop, replicate}
 use Rattle.symplectic.specs.Sizes.{maxQubits, mostRows}
 use Rattle.questions.specs.declared.Figures.{Figures}
 use Rattle.questions.specs.Replies.{Reply}
-use Rattle.gates.specs.Sequences.{gatesReply}
-use Rattle.job.specs.Files.{part, qubitCount, Entry, partSize}
-use Rattle.job.proofs.Numbers.{part-rows}
+use Rattle.gates.specs.Sequences.{tableReply}
+use Rattle.numbers.specs.Numbers.{part}
+use Rattle.job.specs.Files.{qubitCount, Entry, partSize}
+use Rattle.job.proofs.Entries.{part-rows}
 use Rattle.printout.specs.declared.EntryAction.the-variants.{Rows, Refused}
 use Rattle.printout.specs.declared.EntryRows.{EntryRows}
 use Rattle.printout.specs.Printout.{blankWords, wordsOfBytes, actionBy, entryAction}
@@ -29,24 +30,24 @@ module _ (n : ℕ) (action : Reply) (rows : List ℕ) where
   held-refused number h e = inl (h, e)
 
 -- of a gate sequence, by the figures that the call answers and the words that it leaves, where it is lent the first 2n of blank words
-module _ (n : ℕ) (few : n ≤ maxQubits) (bytes : List ℕ) (t : Figures) (told : t ≡ gatesReply n bytes (take (n + n) (replicate mostRows 0)) .figures) (left : List ℕ) where
+module _ (n : ℕ) (few : n ≤ maxQubits) (bytes : List ℕ) (t : Figures) (told : t ≡ tableReply n bytes (take (n + n) (replicate mostRows 0)) .figures) (left : List ℕ) where
   fits : n + n ≤ mostRows
   fits = omega arith
 
   abbrev rows : List ℕ
   rows = left ++ drop (n + n) (replicate mostRows 0)
 
-  number-is : gatesReply n bytes (blankWords (n + n)) .figures .number ≡ t .number
-  number-is = sym (ap (λ (f : Figures). f .number) (lent-figures (n + n) mostRows fits (gatesReply n bytes) t told))
+  number-is : tableReply n bytes (blankWords (n + n)) .figures .number ≡ t .number
+  number-is = sym (ap (λ (f : Figures). f .number) (lent-figures (n + n) mostRows fits (tableReply n bytes) t told))
 
-  pub gates-loaded : length left ≡ length (take {A = ℕ} (n + n) (replicate mostRows 0)) → left ≡ gatesReply n bytes (take (n + n) (replicate mostRows 0)) .words → t .number ≡ 0
-      → Held n (gatesReply n bytes (blankWords (n + n))) (record { found = Rows; rows = left ++ drop (n + n) (replicate mostRows 0) })
+  pub gates-loaded : length left ≡ length (take {A = ℕ} (n + n) (replicate mostRows 0)) → left ≡ tableReply n bytes (take (n + n) (replicate mostRows 0)) .words → t .number ≡ 0
+      → Held n (tableReply n bytes (blankWords (n + n))) (record { found = Rows; rows = left ++ drop (n + n) (replicate mostRows 0) })
   gates-loaded kept is z =
-      held-rows n (gatesReply n bytes (blankWords (n + n))) rows (number-is ∙ z) (sym (left-words (n + n) mostRows fits left kept (gatesReply n bytes) is))
+      held-rows n (tableReply n bytes (blankWords (n + n))) rows (number-is ∙ z) (sym (left-words (n + n) mostRows fits left kept (tableReply n bytes) is))
 
   pub gates-refused : (t .number ≡ 0 → ⊥)
-      → Held n (gatesReply n bytes (blankWords (n + n))) (record { found = Refused (t .number); rows = left ++ drop (n + n) (replicate mostRows 0) })
-  gates-refused h = held-refused n (gatesReply n bytes (blankWords (n + n))) rows (t .number) h number-is
+      → Held n (tableReply n bytes (blankWords (n + n))) (record { found = Refused (t .number); rows = left ++ drop (n + n) (replicate mostRows 0) })
+  gates-refused h = held-refused n (tableReply n bytes (blankWords (n + n))) rows (t .number) h number-is
 
 -- of an entry, by its kind
 module _ (file : List ℕ) (e : Entry) where
@@ -57,7 +58,7 @@ module _ (file : List ℕ) (e : Entry) where
   givenAction = record { figures = record { number = 0; count = e .count; looks = 0 }; words = wordsOfBytes (e .count) (part file (e .offset) (8 * e .count)) }
 
   abbrev gateAction : Reply
-  gateAction = gatesReply n (part file (e .offset) (partSize e)) (blankWords (n + n))
+  gateAction = tableReply n (part file (e .offset) (partSize e)) (blankWords (n + n))
 
   action-given : e .kind ≡ 0 → entryAction file e ≡ givenAction
   unfolding entryAction
@@ -86,6 +87,6 @@ module _ (file : List ℕ) (e : Entry) where
         (held-rows n givenAction rows refl (sym w ∙ ap (λ (k : ℕ). take k rows) c))
 
   pub held-made : (e .kind ≡ 0 → ⊥) → (l : EntryRows)
-      → Held (qubitCount file) (gatesReply (qubitCount file) (part file (e .offset) (partSize e)) (blankWords (qubitCount file + qubitCount file))) l
+      → Held (qubitCount file) (tableReply (qubitCount file) (part file (e .offset) (partSize e)) (blankWords (qubitCount file + qubitCount file))) l
       → Held (qubitCount file) (entryAction file e) l
   held-made h l = subst (λ (a : Reply). Held n a l) (sym (action-made h))

@@ -7,8 +7,8 @@ use native.Mathlib.Omega.{arith}
 use native.Mathlib.Numerals.{add-one}
 use lib.ListN.{length, take, drop, set}
 use Rattle.blocks.proofs.Values.{set-next}
-use Rattle.job.specs.Files.{littleEndian, part, number}
-use Rattle.job.proofs.Numbers.{number-front, number-drop, number-of-part}
+use Rattle.numbers.specs.Numbers.{littleEndian, part, number}
+use Rattle.numbers.proofs.Numbers.{number-front, number-drop, number-of-part}
 use Rattle.printout.specs.Printout.{wordsOfBytes}
 
 pub words-length : (k : ℕ) (bytes : List ℕ) → length (wordsOfBytes k bytes) ≡ k

@@ -4,10 +4,11 @@ use mathlib.Core.List.{List, [], _∷_, flatten}
 use Prim.Native.Nat.{ℕ, zero, suc, _+_, _*_}
 use lib.ListN.{take, drop, replicate}
 use Rattle.questions.specs.Replies.{Reply, refused}
-use Rattle.gates.specs.Sequences.{gatesReply}
+use Rattle.gates.specs.Sequences.{tableReply}
 use Rattle.transvection.specs.Greedy.{greedyReply}
 use Rattle.transvection_exact.specs.Minimal.{minimalReply}
-use Rattle.job.specs.Files.{littleEndian, part, qubitCount, entryCount, Entry, entry, partSize, fileQuestions}
+use Rattle.numbers.specs.Numbers.{littleEndian, part}
+use Rattle.job.specs.Files.{qubitCount, entryCount, Entry, entry, partSize, fileQuestions}
 use Rattle.lines.specs.declared.Name.{Name}
 use Rattle.lines.specs.declared.Name.the-variants.{Min, Greedy}
 use Rattle.lines.specs.Lines.{line, fileLine}
@@ -33,7 +34,7 @@ wordsOfBytes (suc k) bytes = littleEndian (take 8 bytes) ∷ wordsOfBytes k (dro
 -- the answer that holds an entry's action: given, or made from its gates
 abbrev pub actionBy : ℕ → ℕ → ℕ → List ℕ → Reply
 actionBy zero n count bytes = record { figures = record { number = 0; count = count; looks = 0 }; words = wordsOfBytes count bytes }
-actionBy (suc kind) n count bytes = gatesReply n bytes (blankWords (n + n))
+actionBy (suc kind) n count bytes = tableReply n bytes (blankWords (n + n))
 
 unfoldable pub entryAction : List ℕ → Entry → Reply
 entryAction file e = actionBy (e .kind) (qubitCount file) (e .count) (part file (e .offset) (partSize e))

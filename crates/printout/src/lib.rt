@@ -14,8 +14,9 @@ ghost use Prim.Native.Nat.{_+_, _*_, _<_, _≤_};
 ghost use lib.ListN.{length, getD, take};
 ghost use Rattle.symplectic.specs.Sizes.{maxQubits, mostRows};
 ghost use Rattle.questions.specs.Replies.{refused};
-ghost use Rattle.gates.specs.Sequences.{gatesReply};
-ghost use Rattle.job.specs.Files.{part, qubitCount, entryCount, entry, fileQuestions};
+ghost use Rattle.gates.specs.Sequences.{tableReply};
+ghost use Rattle.numbers.specs.Numbers.{part};
+ghost use Rattle.job.specs.Files.{qubitCount, entryCount, entry, fileQuestions};
 ghost use Rattle.lines.specs.Lines.{line};
 ghost use Rattle.lines.specs.Bytes.{lineRoom, bytesOf, nameBytes};
 ghost use Rattle.printout.specs.Printout.{blankWords, listWords, wordsOfBytes, entryAction, callReply, entryLine, fileLines};
@@ -60,14 +61,15 @@ fn action_rows(file: &[u8], offset: u64, m: u64) -> [u64; MOST_ROWS]
     rows
 }
 
-// The action of a gate sequence.
+// The action of a sequence of our six gates.
 fn gate_rows(n: u64, bytes: &[u8]) -> EntryRows
     requires { ⌜ n ≤ maxQubits ⌝ }
-    ensures { λ r. ⌜ Held n (gatesReply n (now (bytes .entry)) (blankWords (n + n))) r ⌝ }
+    ensures { λ r. ⌜ Held n (tableReply n (now (bytes .entry)) (blankWords (n + n))) r ⌝ }
 {
     let mut rows: [u64; MOST_ROWS] = [0; MOST_ROWS];
     let m = (n + n) as usize;
-    let answer = gates::gate_action(n, bytes, &mut rows[..m]);
+    let sheet = sheets::six_gates();
+    let answer = gates::gate_action(n, &sheet, bytes, &mut rows[..m]);
     let figures = gates::figures_of(answer);
     if figures.number == 0 {
         return EntryRows {

@@ -125,6 +125,10 @@ then-passed first later e = ap (λ (q : ℕ). andThen q later) e
 pub then-refused : (first later k : ℕ) → first ≡ suc k → andThen first later ≡ suc k
 then-refused first later k e = ap (λ (q : ℕ). andThen q later) e
 
+pub then-known : (first later : ℕ) → andThen first later ≡ 0 → (first ≡ 0) × (later ≡ 0)
+then-known zero later e = (refl, e)
+then-known (suc k) later e = absurd (omega arith)
+
 module _ (n : ℕ) (rows : List ℕ) (wanted lent : ℕ) where
   pub list-passed : actionQuestions n rows ≡ 0 → wanted ≤ lent → listQuestions n rows wanted lent ≡ 0
   unfolding listQuestions
@@ -150,11 +154,9 @@ module _ (n : ℕ) (rows : List ℕ) (wanted lent : ℕ) where
   -- what is known of a list call that passed
   pub list-known : listQuestions n rows wanted lent ≡ 0 → (actionQuestions n rows ≡ 0) × (wanted ≤ lent)
   unfolding listQuestions
-  list-known e = known (actionQuestions n rows) e
-    where
-      known : (first : ℕ) → andThen first (ask (leb wanted lent) 5 0) ≡ 0 → (first ≡ 0) × (wanted ≤ lent)
-      known zero p = (refl, leb-true wanted lent (ask-passed (leb wanted lent) 4 0 p .0))
-      known (suc k) p = absurd (omega arith)
+  list-known e =
+      let k = then-known (actionQuestions n rows) (ask (leb wanted lent) 5 0) e in
+      (k .0, leb-true wanted lent (ask-passed (leb wanted lent) 4 0 (k .1) .0))
 
 -- ---- the questions of an action, and of a list call, have numbers up to 5
 

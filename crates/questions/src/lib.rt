@@ -70,6 +70,17 @@ pub fn action_questions(n: u64, words: &[u64]) -> Question
     Question::Passed
 }
 
+// The figures of a call that has listed nothing.
+pub fn nothing_listed(number: u64) -> Figures
+    ensures { λ r. ⌜ r ≡ nothingListed number ⌝ }
+{
+    Figures {
+        number: number,
+        count: 0,
+        looks: 0,
+    }
+}
+
 // The answer of a call that has asked, and has listed nothing so far.
 pub fn listing_of(question: Question) -> Listing
     ensures { λ r. ⌜ figuresOf r ≡ nothingListed (numberOf question) ⌝ }

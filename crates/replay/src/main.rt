@@ -3,8 +3,8 @@
 // Not in the source.
 mod score;
 
+use numbers::number_at;
 use questions::Figures;
-use records::number_at;
 use records::same;
 ghost use mathlib.Core.Path.{_≡_};
 ghost use mathlib.Core.Bool.{true};
@@ -56,12 +56,13 @@ fn bytes_of(words: &[u64]) -> [u8; 320]
     bytes
 }
 
-// The gate call, on bytes that are lent as words.
+// The gate call with our six gates, on bytes that are lent as words.
 fn gate_words(n: u64, words: &[u64], out: &mut [u64]) -> Figures
     requires { ⌜ length (now words) ≤ 320 ⌝ }
 {
     let bytes = bytes_of(words);
-    let a = gates::gate_action(n, &bytes[..words.len()], out);
+    let sheet = sheets::six_gates();
+    let a = gates::gate_action(n, &sheet, &bytes[..words.len()], out);
     gates::figures_of(a)
 }
 
@@ -150,7 +151,7 @@ fn words_at(bytes: &[u8], from: usize, size: usize, count: usize) -> [u64; 1024]
     let mut words = blank();
     let mut at = from;
     for i in 0..count {
-        words[i] = number_at(bytes, at, size);
+        words[i] = number_at(bytes, at as u64, 0, size as u64);
         at += size;
     }
     words
@@ -158,17 +159,17 @@ fn words_at(bytes: &[u8], from: usize, size: usize, count: usize) -> [u64; 1024]
 
 fn case_of(head: &[u8]) -> Case {
     Case {
-        kind: number_at(head, 0, 1),
-        size: number_at(head, 1, 1) as usize,
-        lent: number_at(head, 2, 2) as usize,
-        room: number_at(head, 4, 2) as usize,
-        number: number_at(head, 6, 1),
-        count: number_at(head, 7, 1) as usize,
-        n: number_at(head, 8, 8),
-        budget: number_at(head, 16, 8),
-        looks: number_at(head, 24, 8),
-        rows: number_at(head, 32, 2) as usize,
-        first: number_at(head, 34, 2) as usize,
+        kind: number_at(head, 0, 0, 1),
+        size: number_at(head, 0, 1, 1) as usize,
+        lent: number_at(head, 0, 2, 2) as usize,
+        room: number_at(head, 0, 4, 2) as usize,
+        number: number_at(head, 0, 6, 1),
+        count: number_at(head, 0, 7, 1) as usize,
+        n: number_at(head, 0, 8, 8),
+        budget: number_at(head, 0, 16, 8),
+        looks: number_at(head, 0, 24, 8),
+        rows: number_at(head, 0, 32, 2) as usize,
+        first: number_at(head, 0, 34, 2) as usize,
     }
 }
 

@@ -4,8 +4,8 @@
 // Not in the source.
 mod score;
 
+use numbers::number_at;
 use questions::Figures;
-use records::number_at;
 use records::same;
 ghost use mathlib.Core.Path.{_≡_};
 ghost use mathlib.Core.Bool.{true};
@@ -37,17 +37,17 @@ struct Case {
 
 fn case_of(head: &[u8]) -> Case {
     Case {
-        size: number_at(head, 0, 1) as usize,
-        number: number_at(head, 1, 1),
-        words: number_at(head, 2, 2) as usize,
-        rows: number_at(head, 4, 2) as usize,
-        count: number_at(head, 6, 2) as usize,
-        entries: number_at(head, 8, 2) as usize,
-        room: number_at(head, 10, 2) as usize,
-        memory: number_at(head, 12, 4) as usize,
-        n: number_at(head, 16, 8),
-        budget: number_at(head, 24, 8),
-        looks: number_at(head, 32, 8),
+        size: number_at(head, 0, 0, 1) as usize,
+        number: number_at(head, 0, 1, 1),
+        words: number_at(head, 0, 2, 2) as usize,
+        rows: number_at(head, 0, 4, 2) as usize,
+        count: number_at(head, 0, 6, 2) as usize,
+        entries: number_at(head, 0, 8, 2) as usize,
+        room: number_at(head, 0, 10, 2) as usize,
+        memory: number_at(head, 0, 12, 4) as usize,
+        n: number_at(head, 0, 16, 8),
+        budget: number_at(head, 0, 24, 8),
+        looks: number_at(head, 0, 32, 8),
     }
 }
 
@@ -84,7 +84,7 @@ fn words_of(c: Case, bytes: &[u8]) -> [u64; 512]
     let mut words = [0u64; 512];
     let mut at = 0;
     for i in 0..c.words {
-        words[i] = number_at(bytes, at, c.size);
+        words[i] = number_at(bytes, at as u64, 0, c.size as u64);
         at += c.size;
     }
     words

@@ -5,38 +5,11 @@ use crate::case_of;
 use crate::fits;
 use libc::STDIN_FILENO;
 use libc::STDOUT_FILENO;
-use records::more;
+use records::Score;
+use records::counted;
+use records::ended;
+use records::one_unread;
 ghost use Rattle.replay_memory.specs.inner.Records.{HasRoom};
-
-// How many records agree and differ, how many were not read, and whether there is no more to read.
-struct Score {
-    agree: u64,
-    differ: u64,
-    unread: u64,
-    ended: bool,
-}
-
-fn ended(t: Score) -> Score {
-    let mut s = t;
-    s.ended = true;
-    s
-}
-
-fn one_unread(t: Score) -> Score {
-    let mut s = t;
-    s.unread = more(s.unread);
-    s
-}
-
-fn counted(t: Score, agrees: bool) -> Score {
-    let mut s = t;
-    if agrees {
-        s.agree = more(s.agree);
-    } else {
-        s.differ = more(s.differ);
-    }
-    s
-}
 
 // Reads the words of a record and counts it. A record that is cut short is the last one.
 fn with_words(t: Score, c: Case) -> Score

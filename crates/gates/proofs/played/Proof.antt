@@ -2,18 +2,22 @@
 -- Assumes nothing.
 mod Turns
 use mathlib.Core.Path.{refl}
-use Prim.Native.Nat.{_+_, _-_, _*_}
+use Prim.Native.Nat.{_*_}
+use native.Mathlib.Omega.{arith}
 use lib.ListN.{getD}
 use Rattle.gates.specs.declared.GateQuestion.the-variants as asked
 use Rattle.gates.specs.declared.GateAction.the-variants.{UnknownGate, QubitTooHigh, EqualQubits}
-use Rattle.gates.proofs.Asked.{gate-known}
+use Rattle.gates.proofs.Lined.{line-passed}
 use borrow.Author.Needs.{needs}
 use Rattle.gates.proofs.played.Statement.{statement}
 use Rattle.gates.proofs.played.Tie as tie
-use Rattle.gates.proofs.played.Proof.Turns.{Inv-loop, μ-loop, loop-holds, refuses, passed, loop-again, returns-4}
+use Rattle.gates.proofs.played.Proof.Turns.{Inv-loop, μ-loop, start, turn, byte, loop-holds, refuses, passed, loop-again, returns-4}
 
 put-identity-requires : tie.Need-put-identity-requires Inv-loop μ-loop
 put-identity-requires c κs = search needs
+
+gate-count-requires : tie.Need-gate-count-requires Inv-loop μ-loop
+gate-count-requires c κs = search needs
 
 mul-at : tie.Need-mul-at Inv-loop μ-loop
 mul-at c = search needs
@@ -33,6 +37,9 @@ add-b c = search needs
 shared-slice-read-b : tie.Need-shared-slice-read-b Inv-loop μ-loop
 shared-slice-read-b c = search needs
 
+line-at-requires : tie.Need-line-at-requires Inv-loop μ-loop
+line-at-requires c κs = search needs
+
 question-requires : tie.Need-question-requires Inv-loop μ-loop
 question-requires c κs = search needs
 
@@ -41,10 +48,12 @@ enum-told c = search needs
 
 follow-gate-requires : tie.Need-follow-gate-requires Inv-loop μ-loop
 follow-gate-requires c κs =
-    let s = c .before .before .before .before .before .before .before .before .before .before .before .before .before .before .before .before .args in
-    let j = c .before .before .before .before .before .before .before .before .loop .i * 3 in
-    let known = gate-known (s .n) (getD (s .bytes .now) j 0) (getD (s .bytes .now) (j + 1) 0) (getD (s .bytes .now) (j + 2) 0) (passed (c .before)) in
-    (c .before .before .before .before .before .before .before .before .before .before .before .before .before .before .before .before .pre .0, known .0, known .1)
+    let q = c .before .before .before in
+    let s = start (turn q) .args in
+    let pre = start (turn q) .pre in
+    let line = q .before .before .line-at in
+    let known = line-passed (s .sheet .now) (getD (s .bytes .now) (turn q .loop .i * 3) 0) (s .n) (byte q 1) (byte q 2) (line .result) (line .ensures) (pre .3) (passed (c .before)) in
+    (pre .0, known .0, known .1, known .2)
 
 enum-told-2 : tie.Need-enum-told-2 Inv-loop μ-loop
 enum-told-2 c = search needs
@@ -74,7 +83,10 @@ returns-3 : tie.Need-returns-3 Inv-loop μ-loop
 returns-3 c = refuses (c .before .before) 10 asked.EqualQubits EqualQubits (search (needs, c .enum-told4 .given)) refl refl
 
 add-i : tie.Need-add-i Inv-loop μ-loop
-add-i c = search needs
+add-i c =
+    let q = c .before .before .before .before .before .before in
+    let begun = start (turn q) in
+    omega (arith, q .before .before .before .before .before .before .loop-test .taken)
 
 loop-less : tie.Need-loop-less Inv-loop μ-loop
 loop-less c = search needs
@@ -101,6 +113,7 @@ played-spec =
     Inv-loop
     μ-loop
     put-identity-requires
+    gate-count-requires
     loop-holds
     mul-at
     shared-slice-read-g
@@ -108,6 +121,7 @@ played-spec =
     shared-slice-read-a
     add-b
     shared-slice-read-b
+    line-at-requires
     question-requires
     enum-told
     follow-gate-requires

@@ -5,12 +5,12 @@ use Rattle.job.specs.Files.{entryCount}
 use Rattle.job.proofs.entry_count.Statement.{statement}
 use Rattle.job.proofs.entry_count.Tie as tie
 
-number-requires : tie.Need-number-requires
-number-requires c κs = search needs
+number-at-requires : tie.Need-number-at-requires
+number-at-requires c κs = search needs
 
 returns : tie.Need-returns
 unfolding entryCount
 returns c = search needs
 
 pub entry-count-spec : {M : Type 1} → statement M
-entry-count-spec = tie.close (tie.spec number-requires returns)
+entry-count-spec = tie.close (tie.spec number-at-requires returns)

@@ -8,7 +8,7 @@ use lib.ListN.{length}
 use borrow.Author.Needs.{needs}
 use Rattle.job.specs.Files.{entryPasses}
 use Rattle.job.specs.Answers.{entryOf}
-use Rattle.job.proofs.Numbers.{part-le}
+use Rattle.job.proofs.Entries.{part-le}
 use Rattle.job.proofs.Checks.{entry-kind, entry-byte, entry-end}
 use Rattle.job.proofs.entry_passes.Statement.{statement}
 use Rattle.job.proofs.entry_passes.Tie as tie

@@ -3,7 +3,7 @@
 use mathlib.Core.Path.{sym}
 use borrow.Author.Needs.{needs}
 use Rattle.job.specs.Answers.{entryOf}
-use Rattle.job.proofs.Numbers.{part-rows, part-gates}
+use Rattle.job.proofs.Entries.{part-rows, part-gates}
 use Rattle.job.proofs.part_size.Statement.{statement}
 use Rattle.job.proofs.part_size.Tie as tie
 

@@ -4,7 +4,7 @@ use mathlib.Core.Path.{sym}
 use Prim.Native.Nat.{_+_, _*_}
 use native.Mathlib.Omega.{arith}
 use borrow.Author.Needs.{needs}
-use Rattle.job.proofs.Numbers.{number-past}
+use Rattle.numbers.proofs.Numbers.{number-past}
 use Rattle.job.proofs.word_at.Statement.{statement}
 use Rattle.job.proofs.word_at.Tie as tie
 
@@ -13,14 +13,14 @@ returns c =
     let s = c .before .before .args in
     sym (number-past (s .file .now) (s .offset + 8 * s .k) 8 (omega arith))
 
-mul-number : tie.Need-mul-number
-mul-number c = search needs
+mul-number-at : tie.Need-mul-number-at
+mul-number-at c = search needs
 
-number-requires : tie.Need-number-requires
-number-requires c κs = search needs
+number-at-requires : tie.Need-number-at-requires
+number-at-requires c κs = search needs
 
 returns-2 : tie.Need-returns-2
 returns-2 c = search needs
 
 pub word-at-spec : {M : Type 1} → statement M
-word-at-spec = tie.close (tie.spec returns mul-number number-requires returns-2)
+word-at-spec = tie.close (tie.spec returns mul-number-at number-at-requires returns-2)

@@ -7,7 +7,7 @@ use native.Mathlib.Omega.{arith}
 use lib.ListN.{length, take, length-set}
 use borrow.Author.Needs.{needs}
 use Rattle.symplectic.specs.Sizes.{mostRows}
-use Rattle.job.specs.Files.{part}
+use Rattle.numbers.specs.Numbers.{part}
 use Rattle.printout.specs.Printout.{wordsOfBytes}
 use Rattle.printout.proofs.Words.{words-none, words-more}
 use Rattle.printout.proofs.action_rows.Statement.{statement}

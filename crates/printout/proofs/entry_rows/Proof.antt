@@ -7,10 +7,11 @@ use native.Mathlib.Omega.{arith}
 use lib.ListN.{length, take, drop, replicate}
 use borrow.Author.Needs.{needs}
 use Rattle.symplectic.specs.Sizes.{maxQubits, mostRows}
-use Rattle.gates.specs.Sequences.{gatesReply}
-use Rattle.job.specs.Files.{part, qubitCount, Entry, entry, partSize, entryPasses}
+use Rattle.gates.specs.Sequences.{tableReply}
+use Rattle.numbers.specs.Numbers.{part}
+use Rattle.job.specs.Files.{qubitCount, Entry, entry, partSize, entryPasses}
 use Rattle.job.specs.Answers.{entryOf}
-use Rattle.job.proofs.Numbers.{part-cut}
+use Rattle.numbers.proofs.Numbers.{part-cut}
 use Rattle.job.proofs.Checks.{entry-known, passed-qubits, passed-entry}
 use Rattle.printout.specs.declared.EntryRows.{EntryRows}
 use Rattle.printout.specs.declared.EntryAction.the-variants.{Rows, Refused}
@@ -100,8 +101,8 @@ returns-3 c =
     let same : take (e .offset + size .result - e .offset) (drop (e .offset) file) ≡ part file (e .offset) (partSize e) = part-cut file (e .offset) (size .result) ∙ ap (part file (e .offset)) (size .ensures) in
     of-entry a l
     (held-made file e (c .before .before .before .if1 .left) l
-    (subst (λ (m : ℕ). Held m (gatesReply m (part file (e .offset) (partSize e)) (blankWords (m + m))) l) (a .before .qubit-count .ensures)
-    (subst (λ (bytes : List ℕ). Held n (gatesReply n bytes (blankWords (n + n))) l) same (c .gate-rows .ensures))))
+    (subst (λ (m : ℕ). Held m (tableReply m (part file (e .offset) (partSize e)) (blankWords (m + m))) l) (a .before .qubit-count .ensures)
+    (subst (λ (bytes : List ℕ). Held n (tableReply n bytes (blankWords (n + n))) l) same (c .gate-rows .ensures))))
 
 pub entry-rows-spec : {M : Type 1} → statement M
 entry-rows-spec =

@@ -10,12 +10,18 @@ use Rattle.replay.proofs.gate_words.Tie as tie
 bytes-of-requires : tie.Need-bytes-of-requires
 bytes-of-requires c κs = search needs
 
+six-gates-requires : tie.Need-six-gates-requires
+six-gates-requires c κs = search needs
+
+slice-aggregate-gate-action : tie.Need-slice-aggregate-gate-action
+slice-aggregate-gate-action c = search needs
+
 array-share-prefix-bytes : tie.Need-array-share-prefix-bytes
 array-share-prefix-bytes c = search needs
 
-slice-aggregate-gate-action : tie.Need-slice-aggregate-gate-action
-slice-aggregate-gate-action c =
-    let b = c .before in
+slice-aggregate-gate-action-2 : tie.Need-slice-aggregate-gate-action-2
+slice-aggregate-gate-action-2 c =
+    let b = c .before .before .before in
     sym (length-take-le (length (b .before .before .before .args .words .now)) (b .bytes-of .result) (search needs))
 
 gate-action-requires : tie.Need-gate-action-requires
@@ -35,8 +41,10 @@ gate-words-spec =
     tie.close
     (tie.spec
     bytes-of-requires
-    array-share-prefix-bytes
+    six-gates-requires
     slice-aggregate-gate-action
+    array-share-prefix-bytes
+    slice-aggregate-gate-action-2
     gate-action-requires
     figures-of-requires
     same-length

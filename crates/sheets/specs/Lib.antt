@@ -1,0 +1,4 @@
+pub mod Sheets
+pub mod Six
+pub mod Answers
+pub mod inner
