@@ -1,7 +1,8 @@
 //! One comparison after another: what the library did beside what the model says, tallied by family and width.
-use crate::library::{answer, Call, Question, Seen, Spoil};
+use crate::library::{answer, Call, Question, Seen, Spoil, SIX_GATES};
 use crate::memory::Memory;
-use crate::model;
+use crate::model::{self, Reply};
+use std::fmt::Debug;
 
 /// The widths of the table's columns, each up to the number given.
 const BANDS: [(u64, &str); 8] =
@@ -21,7 +22,9 @@ pub struct Checker {
     tallies: Vec<(&'static str, Tally)>,
     pub calls: u64,
     pub differ: u64,
-    refusals: [u64; 15],
+    /// Gate calls compared with the scope paper's table too.
+    on_our_six: u64,
+    refusals: [u64; 17],
     plant: Option<u64>,
     quiet: bool,
 }
@@ -37,9 +40,21 @@ pub fn expected(question: &Question) -> Seen {
         Call::FixedSpace => model::fixed_space(n, words, out),
         Call::Rebuild => model::rebuild(n, words, out),
         Call::Shorter => return expected_choice(question),
-        Call::Gates => model::gates(n, &question.bytes, out),
+        Call::Sheet => return Seen::untouched(model::sheet_number(&question.sheet), question),
+        Call::Gates => model::gates(n, &question.sheet, &question.bytes, out),
     };
-    let mut seen = Seen { memory: memory.laid(&question.memory), ..Seen::untouched(0, question) };
+    Seen { memory: memory.laid(&question.memory), ..after(reply, question) }
+}
+
+/// The same of a gate call on our six, by the scope paper's table; none of any other call.
+pub fn expected_of_six(question: &Question) -> Option<Seen> {
+    let on_six = question.call == Call::Gates && question.sheet == SIX_GATES;
+    on_six.then(|| after(model::six_gates(question.n, &question.bytes, question.out), question))
+}
+
+/// The lent words after a reply, but for a memory.
+fn after(reply: Reply, question: &Question) -> Seen {
+    let mut seen = Seen::untouched(0, question);
     let (list, looks) = match reply {
         Err(number) => return Seen { number, ..seen },
         Ok(answer) => answer,
@@ -61,8 +76,8 @@ fn expected_choice(question: &Question) -> Seen {
     }
 }
 
-/// What the model and the library say differently.
-fn differences(want: &Seen, seen: &Seen) -> String {
+/// What a model, which is named, and the library say differently.
+fn differences(by: &str, want: &Seen, seen: &Seen) -> String {
     let mut text = Vec::new();
     for (name, model, library) in [
         ("number", want.number, seen.number),
@@ -71,13 +86,13 @@ fn differences(want: &Seen, seen: &Seen) -> String {
         ("chosen", want.chosen, seen.chosen),
     ] {
         if model != library {
-            text.push(format!("{name} {model:#x} by the model, {library:#x} by the library"));
+            text.push(format!("{name} {model:#x} by {by}, {library:#x} by the library"));
         }
     }
     for (name, model, library) in [("output", &want.out, &seen.out), ("memory", &want.memory, &seen.memory)] {
         let differ = model.iter().zip(library).enumerate().filter(|(_, (a, b))| a != b);
         for (place, (model, library)) in differ.take(200) {
-            text.push(format!("{name} word {place} {model:#x} by the model, {library:#x} by the library"));
+            text.push(format!("{name} word {place} {model:#x} by {by}, {library:#x} by the library"));
         }
     }
     if !seen.guards {
@@ -89,16 +104,25 @@ fn differences(want: &Seen, seen: &Seen) -> String {
     text.join("\n  ")
 }
 
-/// Words to print, of long lists the first.
-fn shown(words: &[u64]) -> String {
+/// What the library said differently from the model or, on our six gates, from the scope paper's table.
+pub fn unlike(seen: &Seen, want: &Seen, of_six: Option<&Seen>) -> Option<String> {
+    if seen != want {
+        return Some(differences("the model", want, seen));
+    }
+    let of_six = of_six.filter(|want| seen != *want)?;
+    Some(differences("the scope paper's table", of_six, seen))
+}
+
+/// Words or bytes to print, of long lists the first.
+fn shown<T: Debug>(words: &[T]) -> String {
     let (first, more) = words.split_at(words.len().min(200));
     let more = if more.is_empty() { String::new() } else { format!(" and {} more", more.len()) };
     format!("{first:x?}{more}")
 }
 
 impl Checker {
-    /// The count, the choice or the last memory word of the call whose number is planted is damaged; a quiet checker counts the
-    /// differences and prints none.
+    /// The count, the choice, a sheet's number or the last memory word of the call whose number is planted is damaged; a quiet
+    /// checker counts the differences and prints none.
     pub fn new(plant: Option<u64>, quiet: bool) -> Checker {
         Checker { plant, quiet, ..Checker::default() }
     }
@@ -117,21 +141,23 @@ impl Checker {
     }
 
     pub fn call_spoiled(&mut self, family: &'static str, question: &Question, spoil: Option<Spoil>) -> Seen {
-        let want = expected(question);
+        let (want, of_six) = (expected(question), expected_of_six(question));
         let mut seen = answer(question, spoil);
         self.calls += 1;
         if self.plant == Some(self.calls) {
             *match (question.call, seen.memory.last_mut()) {
                 (_, Some(word)) => word,
                 (Call::Shorter, _) => &mut seen.chosen,
+                (Call::Sheet, _) => &mut seen.number,
                 _ => &mut seen.count,
             } ^= 1;
         }
         let band = BANDS.iter().position(|(last, _)| question.n <= *last).unwrap_or(BANDS.len() - 1);
         self.tally(family).calls[band] += 1;
         self.refusals[want.number as usize] += 1;
-        if seen != want {
-            self.report(question, &differences(&want, &seen));
+        self.on_our_six += u64::from(of_six.is_some());
+        if let Some(text) = unlike(&seen, &want, of_six.as_ref()) {
+            self.report(question, &text);
         }
         seen
     }
@@ -146,9 +172,10 @@ impl Checker {
     fn report(&mut self, question: &Question, text: &str) {
         self.differ += 1;
         if self.differ <= 3 && !self.quiet {
-            let Question { call, n, words, bytes, lists, out, memory } = question;
+            let Question { call, n, words, sheet, bytes, lists, out, memory } = question;
             let [words, first, second] = [words, &lists[0], &lists[1]].map(|words| shown(words));
-            print!("differs: {call:?}, n = {n}, {out} output words, words {words}, bytes {bytes:x?}");
+            let [sheet, bytes] = [sheet, bytes].map(|bytes| shown(bytes));
+            print!("differs: {call:?}, n = {n}, {out} output words, words {words}, sheet {sheet}, bytes {bytes}");
             println!(", lists {first} and {second}, {} memory words\n  {text}\n", memory.len());
         }
     }
@@ -170,5 +197,6 @@ impl Checker {
         let of_calls = self.refusals.iter().enumerate().filter(|(k, _)| ![7, 12, 13].contains(k));
         let counts: Vec<String> = of_calls.map(|(k, calls)| format!("{k}: {calls}")).collect();
         println!("\ncalls by answer (0) or refusal: {}", counts.join(", "));
+        println!("{} gate calls on our six gates beside the scope paper's table too", self.on_our_six);
     }
 }

@@ -1,12 +1,13 @@
-//! The seven functions of the library behind one safe call. Every lent buffer stands between guard words of a known pattern.
+//! The eight functions of the library behind one safe call. Every lent buffer stands between guard words of a known pattern.
 use std::ops::Range;
 
 #[allow(dead_code)]
 #[path = "../../examples/turnlist.rs"]
 mod turnlist;
+pub use turnlist::SIX_GATES;
 use turnlist::{
-    turnlist_fixed_space, turnlist_gates, turnlist_greedy, turnlist_minimal, turnlist_minimal_remembering, turnlist_rebuild,
-    turnlist_shorter,
+    turnlist_fixed_space, turnlist_gates, turnlist_greedy, turnlist_minimal, turnlist_minimal_remembering,
+    turnlist_rebuild, turnlist_sheet, turnlist_shorter,
 };
 
 #[derive(Clone, Copy, Debug, PartialEq)]
@@ -17,16 +18,18 @@ pub enum Call {
     FixedSpace,
     Rebuild,
     Shorter,
+    Sheet,
     Gates,
 }
 
-/// One call with its input: words are rows or vectors, bytes are gates, lists are the two to choose from, out is the length
-/// of the output lent, memory is what is lent for dead ends.
+/// One call with its input: words are rows or vectors, sheet is a gate sheet, bytes are gates, lists are the two to choose from,
+/// out is the length of the output lent, memory is what is lent for dead ends.
 #[derive(Clone, Debug)]
 pub struct Question {
     pub call: Call,
     pub n: u64,
     pub words: Vec<u64>,
+    pub sheet: Vec<u8>,
     pub bytes: Vec<u8>,
     pub lists: [Vec<u64>; 2],
     pub out: usize,
@@ -37,7 +40,8 @@ impl Question {
     /// A call that takes a memory is lent a short one.
     pub fn of_words(call: Call, n: u64, words: &[u64], out: usize) -> Question {
         let memory = pattern(if matches!(call, Call::Remembering { .. }) { SHORT } else { 0 });
-        Question { call, n, words: words.to_vec(), bytes: Vec::new(), lists: [Vec::new(), Vec::new()], out, memory }
+        let (words, lists) = (words.to_vec(), [Vec::new(), Vec::new()]);
+        Question { call, n, words, sheet: Vec::new(), bytes: Vec::new(), lists, out, memory }
     }
 
     pub fn with_memory(self, memory: Vec<u64>) -> Question {
@@ -48,8 +52,18 @@ impl Question {
         Question { lists: [first.to_vec(), second.to_vec()], ..Question::of_words(Call::Shorter, n, rows, 0) }
     }
 
+    /// Whether a sheet can be put in force; it has no width.
+    pub fn of_sheet(sheet: &[u8]) -> Question {
+        Question::of_words(Call::Sheet, 0, &[], 0).with_sheet(sheet)
+    }
+
+    /// A sequence of our six gates.
     pub fn of_gates(n: u64, bytes: &[u8], out: usize) -> Question {
-        Question { bytes: bytes.to_vec(), ..Question::of_words(Call::Gates, n, &[], out) }
+        Question { bytes: bytes.to_vec(), ..Question::of_words(Call::Gates, n, &[], out) }.with_sheet(&SIX_GATES)
+    }
+
+    pub fn with_sheet(self, sheet: &[u8]) -> Question {
+        Question { sheet: sheet.to_vec(), ..self }
     }
 }
 
@@ -115,6 +129,14 @@ impl<T: Copy + PartialEq> Fenced<T> {
         unsafe { self.all.as_mut_ptr().add(self.guard.len()) }
     }
 
+    /// The content and its length; an empty one is at null.
+    fn part(&mut self) -> (*mut T, usize) {
+        match self.content().len() {
+            0 => (std::ptr::null_mut(), 0),
+            length => (self.pointer(), length),
+        }
+    }
+
     fn guarded(&self) -> bool {
         self.all.starts_with(&self.guard) && self.all.ends_with(&self.guard)
     }
@@ -123,6 +145,7 @@ impl<T: Copy + PartialEq> Fenced<T> {
 /// All that is lent to one call.
 pub struct Lent {
     pub words: Fenced<u64>,
+    pub sheet: Fenced<u8>,
     pub bytes: Fenced<u8>,
     pub lists: [Fenced<u64>; 2],
     pub out: Fenced<u64>,
@@ -135,9 +158,12 @@ pub struct Lent {
 impl Lent {
     fn new(question: &Question) -> Lent {
         let words = |content: &[u64]| Fenced::new(content, pattern(GUARDS));
+        // all above 127: what is read past the end is neither a count of a sheet nor a turn
+        let bytes = |content: &[u8]| Fenced::new(content, (1..=8 * GUARDS as u8).map(|i| i ^ 0xA5).collect());
         Lent {
             words: words(&question.words),
-            bytes: Fenced::new(&question.bytes, (1..=8 * GUARDS as u8).map(|i| i ^ 0xA5).collect()),
+            sheet: bytes(&question.sheet),
+            bytes: bytes(&question.bytes),
             lists: question.lists.each_ref().map(|list| words(list)),
             out: words(&pattern(question.out)),
             memory: words(&question.memory),
@@ -147,19 +173,12 @@ impl Lent {
         }
     }
 
-    /// The memory and its length; an empty one is at null.
-    fn memory_part(&mut self) -> (*mut u64, usize) {
-        match self.memory.content().len() {
-            0 => (std::ptr::null_mut(), 0),
-            length => (self.memory.pointer(), length),
-        }
-    }
-
     fn pass(&mut self, question: &Question) -> u64 {
         let n = question.n;
         let (words, word_count) = (self.words.pointer(), question.words.len());
         let [first, second] = self.lists.each_mut().map(Fenced::pointer);
         let [first_len, second_len] = question.lists.each_ref().map(Vec::len);
+        let (sheet, sheet_len) = self.sheet.part();
         let (out, count, looks) = (self.out.pointer(), self.count.pointer(), self.looks.pointer());
         // SAFETY: each pointer is to a buffer of the length passed with it, and no two overlap.
         unsafe {
@@ -168,7 +187,7 @@ impl Lent {
                     turnlist_minimal(n, words, word_count, budget, out, question.out, count, looks)
                 }
                 Call::Remembering { budget } => {
-                    let (memory, length) = self.memory_part();
+                    let (memory, length) = self.memory.part();
                     turnlist_minimal_remembering(
                         n,
                         words,
@@ -189,7 +208,11 @@ impl Lent {
                     let chosen = self.chosen.pointer();
                     turnlist_shorter(n, words, word_count, first, first_len, second, second_len, chosen)
                 }
-                Call::Gates => turnlist_gates(n, self.bytes.pointer(), question.bytes.len(), out, question.out, count),
+                Call::Sheet => turnlist_sheet(sheet, sheet_len),
+                Call::Gates => {
+                    let (gates, byte_count) = self.bytes.part();
+                    turnlist_gates(n, sheet, sheet_len, gates, byte_count, out, question.out, count)
+                }
             }
         }
     }
@@ -197,13 +220,14 @@ impl Lent {
     fn guarded(&self) -> bool {
         let [first, second] = &self.lists;
         let words = [&self.words, first, second, &self.out, &self.memory, &self.count, &self.looks, &self.chosen];
-        words.iter().all(|buffer| buffer.guarded()) && self.bytes.guarded()
+        words.iter().all(|buffer| buffer.guarded()) && self.sheet.guarded() && self.bytes.guarded()
     }
 
     /// Whether all input is as it was.
     fn kept(&mut self, question: &Question) -> bool {
         let lists = self.lists.each_mut().map(Fenced::content);
-        lists == question.lists && self.words.content() == question.words && self.bytes.content() == question.bytes
+        let bytes = self.sheet.content() == question.sheet && self.bytes.content() == question.bytes;
+        lists == question.lists && self.words.content() == question.words && bytes
     }
 }
 
@@ -229,12 +253,26 @@ pub fn answer(question: &Question, spoil: Option<Spoil>) -> Seen {
     }
 }
 
+/// A part and its length; an empty one is at null.
+fn lend<T>(part: &[T]) -> (*const T, usize) {
+    (if part.is_empty() { std::ptr::null() } else { part.as_ptr() }, part.len())
+}
+
 /// The number and the choice where the rows and the lists are parts of one buffer, those that are empty at null.
 pub fn choice_of_parts(n: u64, words: &[u64], parts: [Range<usize>; 3]) -> (u64, u64) {
-    let lend = |part: &[u64]| (if part.is_empty() { std::ptr::null() } else { part.as_ptr() }, part.len());
     let [(rows, row_count), (first, first_len), (second, second_len)] = parts.map(|part| lend(&words[part]));
     let mut chosen = CHOSEN;
     // SAFETY: each pointer is to a part of the length passed with it, and what is written overlaps none.
     let number = unsafe { turnlist_shorter(n, rows, row_count, first, first_len, second, second_len, &mut chosen) };
     (number, chosen)
+}
+
+/// The number and the output words of a gate call where the sheet and the gates are parts of one buffer.
+pub fn rows_of_parts(n: u64, bytes: &[u8], parts: [Range<usize>; 2], out_len: usize) -> (u64, Vec<u64>) {
+    let [(sheet, sheet_len), (gates, byte_count)] = parts.map(|part| lend(&bytes[part]));
+    let (mut out, mut count) = (pattern(out_len), COUNT);
+    let to = out.as_mut_ptr();
+    // SAFETY: as in `choice_of_parts`.
+    let number = unsafe { turnlist_gates(n, sheet, sheet_len, gates, byte_count, to, out_len, &mut count) };
+    (number, out)
 }

@@ -1,6 +1,6 @@
-//! The library's seven calls beside an independent model, and beside the Rust source where its program is named.
+//! The library's eight calls beside an independent model, and beside the Rust source where its program is named.
 //! Arguments: the source's program or `-`; the reference answers with a memory or `-`; then, if wanted, `three` (every action on
-//! 3 qubits too), or `plant` and the number of a call whose count, choice or last memory word is to be damaged.
+//! 3 qubits too), or `plant` and the number of a call whose count, choice, sheet's number or last memory word is to be damaged.
 mod actions;
 mod check;
 mod edges;
@@ -13,6 +13,11 @@ mod model;
 mod remembering;
 mod selftest;
 mod selftest_memory;
+mod selftest_sheets;
+mod sheet;
+mod sheet_edges;
+mod sheet_maker;
+mod sheets;
 mod shorter;
 mod source;
 mod vectors;
@@ -20,7 +25,7 @@ mod words;
 
 use actions::Sample;
 use check::Checker;
-use layers::{all_actions, Family, Layers, FAMILIES};
+use layers::{all_actions, Family, Layers, Random, FAMILIES};
 use library::{Call, Question};
 use remembering::Summary;
 use source::Listed;
@@ -117,6 +122,24 @@ fn with_memory(check: &mut Checker, layers: &mut Layers, most: usize, samples: u
     summary
 }
 
+/// Lent gate sheets, those at the edges and as many random ones as are asked for.
+fn with_sheets(check: &mut Checker, random: &mut Random, samples: usize) -> [sheets::Summary; 2] {
+    let [mut edges, mut drawn] = ["sheets at the edges", "random sheets"].map(sheets::Summary::new);
+    sheet_edges::counts(check, &mut edges);
+    sheet_edges::lines(check, &mut edges);
+    sheet_edges::offsets(check, &mut edges);
+    sheet_edges::turns(check, &mut edges);
+    sheet_edges::both_faults(check, &mut edges);
+    sheet_edges::full(check, &mut edges, random);
+    sheet_edges::changed_six(check, &mut edges);
+    sheet_edges::orders(check, &mut edges);
+    sheet_edges::no_turns(check, &mut edges);
+    sheets::our_six_elsewhere(check, &mut edges, random, samples / 10);
+    sheets::parts(check, &mut edges, random);
+    sheets::sampled(check, &mut drawn, random, samples);
+    [edges, drawn]
+}
+
 /// The reference answers in a file; ends the program where they cannot be read.
 fn against_vectors(check: &mut Checker, file: &str) -> String {
     if file == "-" {
@@ -157,6 +180,12 @@ fn test_self() {
         selftest_memory::memories(),
         selftest_memory::entries(),
         selftest_memory::reference_lines(),
+        selftest_sheets::numbers(),
+        selftest_sheets::actions(),
+        selftest_sheets::refusals(),
+        selftest_sheets::our_six(),
+        selftest_sheets::makers(),
+        selftest_sheets::both_models(),
     ];
     match facts.into_iter().collect::<Result<(), String>>().and_then(|()| selftest::planted()) {
         Ok(seen) => println!("{seen} planted damages, all of them reported\n"),
@@ -185,11 +214,14 @@ fn main() {
     circuits(&mut check, &mut layers, &mut listed);
     all_edges(&mut check, &mut layers, 20_000);
     let summary = with_memory(&mut check, &mut layers, most, 5_000);
+    let of_sheets = with_sheets(&mut check, &mut layers.random, 20_000);
     let of_vectors = against_vectors(&mut check, named(1));
     check.print_table();
     summary.print();
+    of_sheets.iter().for_each(sheets::Summary::print);
     println!("{of_vectors}");
     let differ = check.differ + against_source(named(0), &listed);
     println!("{} calls compared, {differ} differ", check.calls);
-    std::process::exit(i32::from(differ != 0));
+    let complete = of_sheets.iter().all(|sheets| sheets.missing().is_empty());
+    std::process::exit(i32::from(differ != 0 || !complete));
 }

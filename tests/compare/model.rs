@@ -1,14 +1,15 @@
-//! The seven calls again, plainly, from the scope paper (the fixed space from request 3, the shorter list from request 4, the
-//! memory from request 6): the questions in their order, then the answer.
+//! The eight calls again, plainly, from the scope paper (the fixed space from request 3, the shorter list from request 4, the
+//! memory from request 6, the gate sheet from request 8): the questions in their order, then the answer.
 use crate::fixed;
 use crate::memory::Memory;
 use crate::minimal::minimal_list;
+use crate::sheet;
 use crate::words::{mask, pairing, product, symplectic};
 
 /// The listed words and the looks (0 where the call has none), or the refusal.
 pub type Reply = Result<(Vec<u64>, u64), u64>;
 
-fn ask(passes: bool, number: u64) -> Result<(), u64> {
+pub fn ask(passes: bool, number: u64) -> Result<(), u64> {
     if passes {
         Ok(())
     } else {
@@ -93,7 +94,24 @@ pub fn shorter(n: u64, rows: &[u64], first: &[u64], second: &[u64]) -> Result<u6
     matching.min_by_key(|(_, list)| list.len()).map(|(place, _)| place).ok_or(14)
 }
 
-pub fn gates(n: u64, bytes: &[u8], out: usize) -> Reply {
+/// 0 where a sheet can be put in force, or the refusal.
+pub fn sheet_number(sheet: &[u8]) -> u64 {
+    sheet::read(sheet).err().unwrap_or(0)
+}
+
+pub fn gates(n: u64, sheet: &[u8], bytes: &[u8], out: usize) -> Reply {
+    let n = width(n, out)?;
+    let sheet = sheet::read(sheet)?;
+    let mut turns = Vec::new();
+    for gate in bytes.chunks_exact(3) {
+        let on_sheet = sheet.get(gate[0] as usize).ok_or(9u64)?;
+        turns.extend(on_sheet.played(n, gate[1] as usize, gate[2] as usize)?);
+    }
+    Ok((product(n, &turns), 0))
+}
+
+/// A sequence of our six gates, by the scope paper's table and without a sheet.
+pub fn six_gates(n: u64, bytes: &[u8], out: usize) -> Reply {
     let n = width(n, out)?;
     let mut turns = Vec::new();
     for gate in bytes.chunks_exact(3) {

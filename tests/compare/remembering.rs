@@ -190,7 +190,7 @@ fn drawn(layers: &mut Layers, n: usize) -> Vec<u64> {
         Some((family, _)) => layers.action(*family, n),
         None => {
             let gates = layers.random.below(8 * n);
-            model::gates(n as u64, &circuit(&mut layers.random, n, gates), 2 * n).unwrap_or_default().0
+            model::six_gates(n as u64, &circuit(&mut layers.random, n, gates), 2 * n).unwrap_or_default().0
         }
     }
 }

@@ -3,8 +3,8 @@
 use crate::check::Checker;
 use crate::fixed::{self, reduced};
 use crate::layers::{hyperbolic, Family, Layers, FAMILIES};
-use crate::library::{pattern, Call, Lent, Question, Spoil};
-use crate::model::{self, fixed_space, gates, greedy, minimal};
+use crate::library::{pattern, Call, Lent, Question, Spoil, SIX_GATES};
+use crate::model::{self, fixed_space, greedy, minimal, six_gates};
 use crate::shorter;
 use crate::source::{agrees, Listed};
 use crate::words::{identity, symplectic, times};
@@ -15,6 +15,7 @@ type Damage = Box<dyn Fn(&mut Lent, &mut u64)>;
 fn damages() -> Vec<(&'static str, Damage)> {
     vec![
         ("number", Box::new(|_, number| *number ^= 1)),
+        ("number, 15 or 16 in its place", Box::new(|_, number| *number = if *number == 15 { 16 } else { 15 })),
         ("first output word", Box::new(|lent, _| lent.out.all[8] ^= 1)),
         ("last output word", Box::new(|lent, _| *lent.out.all.iter_mut().nth_back(8).unwrap() ^= 1 << 40)),
         ("first memory word", Box::new(|lent, _| lent.memory.all[8] ^= 1)),
@@ -23,6 +24,8 @@ fn damages() -> Vec<(&'static str, Damage)> {
         ("looks", Box::new(|lent, _| lent.looks.content()[0] -= 1)),
         ("choice", Box::new(|lent, _| lent.chosen.content()[0] ^= 3)),
         ("input word", Box::new(|lent, _| lent.words.all[8] ^= 2)),
+        ("first sheet byte", Box::new(|lent, _| lent.sheet.all[64] ^= 1)),
+        ("last sheet byte", Box::new(|lent, _| *lent.sheet.all.iter_mut().nth_back(64).unwrap() ^= 128)),
         ("input byte", Box::new(|lent, _| lent.bytes.all[64] ^= 2)),
         ("first list", Box::new(|lent, _| lent.lists[0].all[8] ^= 2)),
         ("second list", Box::new(|lent, _| *lent.lists[1].all.iter_mut().nth_back(8).unwrap() ^= 1)),
@@ -31,6 +34,11 @@ fn damages() -> Vec<(&'static str, Damage)> {
         ("word before the memory", Box::new(|lent, _| lent.memory.all[7] ^= 1)),
         ("word after the memory", Box::new(|lent, _| *lent.memory.all.iter_mut().nth_back(7).unwrap() = 0)),
         ("word before the input", Box::new(|lent, _| lent.words.all[0] ^= 1)),
+        ("byte before the sheet", Box::new(|lent, _| lent.sheet.all[63] ^= 1)),
+        ("first byte before the sheet", Box::new(|lent, _| lent.sheet.all[0] = 0)),
+        ("byte after the sheet", Box::new(|lent, _| *lent.sheet.all.iter_mut().nth_back(63).unwrap() = 0)),
+        ("last byte after the sheet", Box::new(|lent, _| *lent.sheet.all.last_mut().unwrap() ^= 1)),
+        ("byte before the gates", Box::new(|lent, _| lent.bytes.all[63] = 0)),
         ("byte after the gates", Box::new(|lent, _| *lent.bytes.all.last_mut().unwrap() ^= 1)),
         ("word after the count", Box::new(|lent, _| lent.count.all[9] = 0)),
         ("word before the looks", Box::new(|lent, _| lent.looks.all[7] = 0)),
@@ -43,7 +51,7 @@ fn damages() -> Vec<(&'static str, Damage)> {
     ]
 }
 
-/// Answers and refusals of all seven calls.
+/// Answers and refusals of all eight calls.
 fn questions() -> Vec<Question> {
     let rows = [2, 1, 8, 4, 0x20, 0x10].map(|k: u64| k ^ 1);
     let swap = [2, 1, 8, 4];
@@ -73,8 +81,17 @@ fn questions() -> Vec<Question> {
         Question::of_lists(2, &swap, &[12, 15, 3, 0], &[3, 15, 12]),
         Question::of_lists(2, &swap, &[12, 15], &[16]),
         Question::of_lists(2, &rows, &[12, 15, 3], &[3]),
+        Question::of_sheet(&SIX_GATES),
+        Question::of_sheet(&SIX_GATES[..36]),
+        Question::of_sheet(&[1, 1, 1, 5, 0, 2]),
+        Question::of_sheet(&[]),
         Question::of_gates(2, &[0, 1, 9, 5, 0, 1], 4),
         Question::of_gates(2, &[0, 1, 9, 5, 1, 1], 4),
+        Question::of_gates(2, &[0, 0, 1], 4).with_sheet(&[1, 2, 3, 1, 0]),
+        Question::of_gates(2, &[1, 0, 1], 4).with_sheet(&[1, 2, 3, 1, 0]),
+        Question::of_gates(2, &[], 4).with_sheet(&[1, 2, 3, 1]),
+        Question::of_gates(2, &[0, 0, 1], 4).with_sheet(&[1, 1, 3, 1, 0]),
+        Question::of_gates(2, &[0, 0, 1], 4).with_sheet(&[]),
     ]
 }
 
@@ -146,7 +163,7 @@ pub fn families() -> Result<(), String> {
 
 /// The examples of the scope paper that have numbers and vectors, by the model.
 pub fn examples() -> Result<(), String> {
-    let action = |n: u64, bytes: &[u8]| gates(n, bytes, 2 * n as usize).unwrap_or_default().0;
+    let action = |n: u64, bytes: &[u8]| six_gates(n, bytes, 2 * n as usize).unwrap_or_default().0;
     let (h, hh) = (action(1, &[0, 0, 0]), action(2, &[0, 0, 0, 0, 1, 0]));
     let (cx, swap) = (action(2, &[3, 0, 1]), action(2, &[5, 0, 1]));
     let replies = [
@@ -164,7 +181,7 @@ pub fn examples() -> Result<(), String> {
         (minimal(1, &[2, 2], 9, 3), Err(4)),
         (minimal(33, &[], 9, 0), Err(1)),
         (minimal(2, &swap, 0, 4), Err(5)),
-        (gates(2, &[3, 1, 1], 4), Err(11)),
+        (six_gates(2, &[3, 1, 1], 4), Err(11)),
     ];
     match replies.iter().position(|(reply, wanted)| reply != wanted) {
         Some(k) => Err(format!("the model's reply to example {k} is {:?}, not {:?}", replies[k].0, replies[k].1)),
