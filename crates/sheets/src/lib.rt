@@ -162,7 +162,7 @@ fn well_formed(sheet: &[u8]) -> bool
     lines_fit(sheet)
 }
 
-// Whether a turn is a code of four bits, not zero, and has a part on a second qubit only where the gate has one.
+// Whether a turn is a code of four bits, not zero, and has a part on the second qubit only where the gate reads two.
 fn turn_fits(qubits: u8, code: u8) -> bool
     ensures { λ r. ⌜ r ≡ turnFits qubits code ⌝ }
 {
