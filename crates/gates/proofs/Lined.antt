@@ -2,7 +2,7 @@
 -- Assumes nothing.
 use mathlib.Core.Path.{_≡_, refl, sym, ap, _∙_, subst}
 use mathlib.Core.Bool.{Bool, true, false}
-use mathlib.Core.List.{List, []}
+use mathlib.Core.List.{List}
 use Prim.Native.Nat.{ℕ, _+_, _≤_, _<_}
 use native.Mathlib.Omega.{arith}
 use lib.Dec.{ltb, eqb}
@@ -15,7 +15,7 @@ use Rattle.sheets.specs.Sheets.{Gate, gateCount, line, gatesOf, sheetQuestions}
 use Rattle.sheets.specs.inner.Seconds.{Second}
 use Rattle.sheets.proofs.Lines.{gates-length, gate-in, gate-qubits, gate-turns}
 use Rattle.sheets.proofs.Checks.{line-known, form-known, sheet-known}
-use Rattle.gates.specs.Sequences.{gate, readsTwo, gateQuestions}
+use Rattle.gates.specs.Sequences.{noGate, gate, readsTwo, gateQuestions}
 use Rattle.gates.proofs.Asked.{unknown-gate, gate-known}
 use Rattle.gates.proofs.Narrow.{turns-second}
 
@@ -30,11 +30,11 @@ module _ (sheet : List ℕ) (g : ℕ) where
     two-of-line : eqb (line sheet g .qubits) 2 ≡ readsTwo (gate (gatesOf sheet) g)
     unfolding readsTwo gate
     two-of-line =
-        ap (λ (q : ℕ). eqb q 2) (sym (ap (λ (x : Gate). x .qubits) (gate-in sheet (record { qubits = 0; turns = [] }) g known) ∙ gate-qubits sheet (line sheet g)))
+        ap (λ (q : ℕ). eqb q 2) (sym (ap (λ (x : Gate). x .qubits) (gate-in sheet noGate g known) ∙ gate-qubits sheet (line sheet g)))
 
     turns-of-line : gate (gatesOf sheet) g .turns ≡ part sheet (line sheet g .offset) (line sheet g .count)
     unfolding gate
-    turns-of-line = ap (λ (x : Gate). x .turns) (gate-in sheet (record { qubits = 0; turns = [] }) g known) ∙ gate-turns sheet (line sheet g)
+    turns-of-line = ap (λ (x : Gate). x .turns) (gate-in sheet noGate g known) ∙ gate-turns sheet (line sheet g)
 
   module _ (n a b : ℕ) where
     -- whether it reads two qubits does not matter past the last gate

@@ -17,7 +17,7 @@ use Rattle.questions.proofs.Questions.{then-known}
 use Rattle.sheets.specs.Sheets.{Gate, gateFits}
 use Rattle.sheets.specs.inner.Seconds.{Second}
 use Rattle.sheets.proofs.Checks.{no-turns, gate-second}
-use Rattle.gates.specs.Sequences.{turnVector, gate, readsTwo, gateQuestions, sequenceQuestions, sequenceTurns}
+use Rattle.gates.specs.Sequences.{turnVector, noGate, gate, readsTwo, gateQuestions, sequenceQuestions, sequenceTurns}
 use Rattle.gates.proofs.Asked.{gate-known}
 
 power-lt : (m c : ℕ) (t : Bool) → (t ≡ true → c < m) → select 0 t (2 ^ c) < 2 ^ m
@@ -41,7 +41,7 @@ module _ (n a b : ℕ) (first : a < n) where
 -- the turns of a gate that was asked of, where the gates fit
 pub turns-second : (P : Type 0) (gates : List Gate) → allOf gateFits gates ≡ true → (g : ℕ) → (readsTwo (gate gates g) ≡ true → P) → All (Second P) (gate gates g .turns)
 unfolding readsTwo gate
-turns-second P gates fit = gate-second P gates (record { qubits = 0; turns = [] }) (no-turns 0) fit
+turns-second P gates fit = gate-second P gates noGate (no-turns 0) fit
 
 pub sequence-lt : (n : ℕ) (gates : List Gate) → allOf gateFits gates ≡ true → (l : List ℕ) → sequenceQuestions n gates l ≡ 0 → All (λ v. v < 2 ^ (n + n)) (sequenceTurns n gates l)
 unfolding sequenceQuestions sequenceTurns

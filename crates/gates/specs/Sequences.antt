@@ -18,15 +18,18 @@ unfoldable pub turnVector : ℕ → ℕ → ℕ → ℕ → ℕ
 turnVector n a b code =
     select 0 (bit 0 code) (2 ^ a) ⊕ select 0 (bit 1 code) (2 ^ b) ⊕ select 0 (bit 2 code) (2 ^ (n + a)) ⊕ select 0 (bit 3 code) (2 ^ (n + b))
 
--- gate g; past the last one, a gate without turns
+-- past the last gate: no turns. Plain data, open to users
+abbrev pub noGate : Gate
+noGate = record { qubits = 0; turns = [] }
+
 unfoldable pub gate : List Gate → ℕ → Gate
-gate gates g = getD gates g (record { qubits = 0; turns = [] })
+gate gates g = getD gates g noGate
 
 -- whether b is read
 unfoldable pub readsTwo : Gate → Bool
 readsTwo g = eqb (g .qubits) 2
 
--- 9: is the gate on the sheet? 10: are the qubits read below n? 11: do the two differ?
+-- of a gate that is there or not, and reads two qubits or one. 9: is the gate on the sheet? 10: are the qubits read below n? 11: do the two differ?
 unfoldable pub gateQuestions : ℕ → Bool → Bool → ℕ → ℕ → ℕ
 gateQuestions n there two a b = ask there 9 (ask (ltb a n && (not two || ltb b n)) 10 (ask (not two || not (eqb a b)) 11 0))
 

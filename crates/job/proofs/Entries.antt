@@ -9,6 +9,8 @@ use Rattle.numbers.specs.Numbers.{number}
 use Rattle.numbers.proofs.Numbers.{number-past}
 use Rattle.job.specs.Files.{headSize, entrySize, Entry, entry, itemSize, partSize}
 
+-- ---- past the end
+
 pub entry-past : (file : List ℕ) (i : ℕ) → length file ≤ headSize + entrySize * i → entry file i ≡ record { kind = 0; zeroByte = 0; count = 0; offset = 0 }
 unfolding entry
 entry-past file i h =
@@ -28,6 +30,8 @@ unfolding entry
 entry-read file i a b c d ea eb ec ed =
     let at : (k : ℕ) → headSize + (entrySize * i + k) ≡ headSize + entrySize * i + k = λ k. omega arith in
     simp (ea, eb, ec, ed, at 1, at 2, at 4)
+
+-- ---- the size of a part
 
 pub part-rows : (e : Entry) → e .kind ≡ 0 → partSize e ≡ 8 * e .count
 unfolding partSize
