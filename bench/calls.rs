@@ -1,9 +1,11 @@
 //! Microseconds of whole calls, minimal, greedy and fixed space, beside the Rust source where it is at hand: on the same layers,
 //! in one process, the two sides in turn. Both sides' lists and fixed spaces are compared before they are timed. The choice from
-//! two long lists, which the source does not have, is timed beside plain Rust. Looks are counted with memories lent, too.
+//! two long lists, which the source does not have, is timed beside plain Rust, the self-inverse call beside the minimal one. Looks
+//! are counted with memories lent, too.
 use std::time::Instant;
 
 mod clock;
+mod echoes;
 mod families;
 mod layers;
 mod ours;
@@ -206,6 +208,7 @@ fn main() {
     table(greedy, &all, greedy_sample);
     let fixed = "the fixed space; source: clifford_fixed_space; stand-in: its parts that are not the source's code, the elimination among them";
     table(fixed, &all, fixed_sample);
+    echoes::table();
     shorter::table();
     remembered::table();
 }

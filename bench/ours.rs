@@ -4,7 +4,7 @@
 mod turnlist;
 use turnlist::{
     turnlist_fixed_space, turnlist_gates, turnlist_greedy, turnlist_minimal, turnlist_minimal_remembering, turnlist_rebuild,
-    turnlist_shorter,
+    turnlist_self_inverse, turnlist_shorter,
 };
 
 #[link(name = "cabi", kind = "static")]
@@ -46,6 +46,13 @@ pub fn greedy(n: usize, rows: &[u64], out: &mut [u64; ROOM]) -> (u64, usize) {
 pub fn fixed_space(n: usize, rows: &[u64], out: &mut [u64; ROOM]) -> (u64, usize) {
     let mut count = 0;
     let number = unsafe { turnlist_fixed_space(n as u64, rows.as_ptr(), rows.len(), out.as_mut_ptr(), ROOM, &mut count) };
+    (number, count as usize)
+}
+
+/// The refusal, and how many vectors were listed.
+pub fn self_inverse(n: usize, rows: &[u64], out: &mut [u64; ROOM]) -> (u64, usize) {
+    let mut count = 0;
+    let number = unsafe { turnlist_self_inverse(n as u64, rows.as_ptr(), rows.len(), out.as_mut_ptr(), ROOM, &mut count) };
     (number, count as usize)
 }
 

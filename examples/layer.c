@@ -1,4 +1,4 @@
-/* A layer by its gates, its turn lists, the action rebuilt from each, its fixed space, the shorter list, two refusals, what
+/* A layer by its gates, its turn lists, the action rebuilt from each, its fixed space, the shorter list, three refusals, what
  * a memory saves, and a gate of a lab's own sheet. Run it by examples/run-c. */
 #include "turnlist.h"
 
@@ -37,6 +37,7 @@ static const char *const meanings[] = {
     "neither list has the action for its product",
     "a sheet whose counts, lines or offsets are wrong",
     "a sheet with a turn that is zero, above 15, or on a second qubit that is not there",
+    "the action is not its own inverse",
 };
 
 /* Rows of an action whose search comes upon failed subspaces again. */
@@ -108,7 +109,7 @@ static int lab(const char *path)
 
 int main(int argc, char **argv)
 {
-    uint64_t action[ROWS], minimal[MINIMAL_WORDS], greedy[GREEDY_WORDS], fixed[ROWS];
+    uint64_t action[ROWS], minimal[MINIMAL_WORDS], greedy[GREEDY_WORDS], commuting[MINIMAL_WORDS], fixed[ROWS];
     uint64_t count, minimal_count, greedy_count, looks, chosen;
     uint64_t memory[MEMORY_WORDS];
 
@@ -127,6 +128,13 @@ int main(int argc, char **argv)
     printf("greedy: %" PRIu64 " turns:", greedy_count);
     print_letters(greedy, greedy_count);
     print_rebuilt("greedy", greedy, greedy_count, action);
+
+    /* H and CX undo themselves, and here they are on different qubits */
+    if (!answered(turnlist_self_inverse(N, action, ROWS, commuting, MINIMAL_WORDS, &count)))
+        return 1;
+    printf("self-inverse: %" PRIu64 " turns that commute:", count);
+    print_letters(commuting, count);
+    print_rebuilt("self-inverse", commuting, count, action);
 
     if (!answered(turnlist_fixed_space(N, action, ROWS, fixed, ROWS, &count)))
         return 1;
@@ -152,5 +160,8 @@ int main(int argc, char **argv)
                                                minimal, MINIMAL_WORDS, &count, &looks)))
         return 1;
     printf(" with a memory of 16 failed subspaces %" PRIu64 "\n", looks);
+
+    printf("as a self-inverse layer: ");
+    answered(turnlist_self_inverse(N, harder, ROWS, commuting, MINIMAL_WORDS, &count));
     return argc < 2 ? 0 : lab(argv[1]);
 }

@@ -1,4 +1,4 @@
-"""A layer by its gates, its turn lists, the action rebuilt from each, its fixed space, the shorter list, two refusals, what a
+"""A layer by its gates, its turn lists, the action rebuilt from each, its fixed space, the shorter list, three refusals, what a
 memory saves, and a gate of a lab's own sheet. Run it by examples/run-python."""
 import sys
 
@@ -31,6 +31,10 @@ def main(path, sheet_path):
     print(f"greedy: {len(greedy)} turns: {letters(greedy)}")
     print(f"rebuilt from the greedy list: {compared(greedy)}")
 
+    commuting = library.self_inverse(N, action)  # H and CX undo themselves, and here they are on different qubits
+    print(f"self-inverse: {len(commuting)} turns that commute: {letters(commuting)}")
+    print(f"rebuilt from the self-inverse list: {compared(commuting)}")
+
     fixed = library.fixed_space(N, action)
     print(f"fixed space: {len(fixed)} vectors: {letters(fixed)}")
 
@@ -50,6 +54,11 @@ def main(path, sheet_path):
     _, looks = library.minimal(N, HARDER, 1_000_000)
     _, fewer = library.minimal_remembering(N, HARDER, 1_000_000, words([0] * (16 * ENTRY_WORDS)))
     print(f"a harder layer: {looks} looks, with a memory of 16 failed subspaces {fewer}")
+
+    try:
+        library.self_inverse(N, HARDER)
+    except Refusal as refusal:
+        print(f"as a self-inverse layer: {refusal}")
 
     with open(sheet_path, "rb") as f:
         sheet = f.read()

@@ -1,4 +1,4 @@
-//! A layer by its gates, its turn lists, the action rebuilt from each, its fixed space, the shorter list, two refusals, what
+//! A layer by its gates, its turn lists, the action rebuilt from each, its fixed space, the shorter list, three refusals, what
 //! a memory saves, and a gate of a lab's own sheet. Run it by examples/run-rust.
 #[allow(dead_code)] // not every gate is used here
 mod turnlist;
@@ -54,6 +54,11 @@ fn main() -> Result<(), Box<dyn Error>> {
     println!("greedy: {} turns: {}", greedy.len(), letters(&greedy));
     println!("rebuilt from the greedy list: {}", compared(&greedy, &action)?);
 
+    // H and CX undo themselves, and here they are on different qubits
+    let commuting = turnlist::self_inverse(N, &action)?;
+    println!("self-inverse: {} turns that commute: {}", commuting.len(), letters(&commuting));
+    println!("rebuilt from the self-inverse list: {}", compared(&commuting, &action)?);
+
     let fixed = turnlist::fixed_space(N, &action)?;
     println!("fixed space: {} vectors: {}", fixed.len(), letters(&fixed));
 
@@ -73,5 +78,9 @@ fn main() -> Result<(), Box<dyn Error>> {
     let mut memory = [0; 16 * turnlist::ENTRY_WORDS];
     let fewer = turnlist::minimal_remembering(N, &HARDER, 1_000_000, &mut memory)?.looks;
     println!("a harder layer: {looks} looks, with a memory of 16 failed subspaces {fewer}");
+
+    if let Err(refusal) = turnlist::self_inverse(N, &HARDER) {
+        println!("as a self-inverse layer: {refusal}");
+    }
     std::env::args().nth(1).map_or(Ok(()), |path| lab(&path))
 }

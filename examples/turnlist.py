@@ -25,6 +25,7 @@ MEANINGS = (
     "neither list has the action for its product",
     "a sheet whose counts, lines or offsets are wrong",
     "a sheet with a turn that is zero, above 15, or on a second qubit that is not there",
+    "the action is not its own inverse",
 )
 WORD = ctypes.c_uint64
 WORDS = ctypes.POINTER(WORD)
@@ -68,6 +69,7 @@ class Turnlist:
         self._remembering = self._call(library.turnlist_minimal_remembering, [WORD, WORDS, LENGTH, WORD, WORDS, LENGTH, *lending, WORDS])
         self._greedy = self._call(library.turnlist_greedy, [WORD, WORDS, LENGTH, *lending])
         self._fixed_space = self._call(library.turnlist_fixed_space, [WORD, WORDS, LENGTH, *lending])
+        self._self_inverse = self._call(library.turnlist_self_inverse, [WORD, WORDS, LENGTH, *lending])
         self._rebuild = self._call(library.turnlist_rebuild, [WORD, WORDS, LENGTH, *lending])
         self._shorter = self._call(library.turnlist_shorter, [WORD, *[WORDS, LENGTH] * 3, WORDS])
         self._sheet = self._call(library.turnlist_sheet, [BYTES, LENGTH])
@@ -111,6 +113,11 @@ class Turnlist:
     def fixed_space(self, n, rows):
         """The reduced basis, pivots ascending, of all vectors that the action leaves as they are."""
         return self._written(self._fixed_space, 2 * MOST_QUBITS, word(n), words(rows), len(rows))
+
+    def self_inverse(self, n, rows):
+        """A list of turns whose product is the action, for one that is its own inverse: the turns commute, and no list of it is
+        shorter. There is no search."""
+        return self._written(self._self_inverse, 2 * MOST_QUBITS + 1, word(n), words(rows), len(rows))
 
     def rebuild(self, n, vectors):
         """The 2n rows of the product of any list."""

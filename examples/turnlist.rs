@@ -44,10 +44,11 @@ pub enum Refusal {
     NeitherMatches = 14,
     MalformedSheet,
     BadTurn,
+    NotSelfInverse,
 }
 
 impl Refusal {
-    const ALL: [Refusal; 13] = [
+    const ALL: [Refusal; 14] = [
         Refusal::TooManyQubits,
         Refusal::WrongRowCount,
         Refusal::RowTooWide,
@@ -61,6 +62,7 @@ impl Refusal {
         Refusal::NeitherMatches,
         Refusal::MalformedSheet,
         Refusal::BadTurn,
+        Refusal::NotSelfInverse,
     ];
 
     /// The refusal that a call returns this number for.
@@ -83,6 +85,7 @@ impl Refusal {
             Refusal::NeitherMatches => "neither list has the action for its product",
             Refusal::MalformedSheet => "a sheet whose counts, lines or offsets are wrong",
             Refusal::BadTurn => "a sheet with a turn that is zero, above 15, or on a second qubit that is not there",
+            Refusal::NotSelfInverse => "the action is not its own inverse",
         }
     }
 }
@@ -137,6 +140,16 @@ pub fn fixed_space(n: u64, rows: &[u64]) -> Result<Vec<u64>, Refusal> {
     let mut count = 0;
     // SAFETY: as in `minimal`.
     let reply = unsafe { turnlist_fixed_space(n, rows.as_ptr(), rows.len(), out.as_mut_ptr(), out.len(), &mut count) };
+    written(reply, &out, count)
+}
+
+/// A list of turns whose product is the action, for one that is its own inverse: the turns commute, and no list of it is
+/// shorter. There is no search.
+pub fn self_inverse(n: u64, rows: &[u64]) -> Result<Vec<u64>, Refusal> {
+    let mut out = [0; 2 * MOST_QUBITS + 1];
+    let mut count = 0;
+    // SAFETY: as in `minimal`.
+    let reply = unsafe { turnlist_self_inverse(n, rows.as_ptr(), rows.len(), out.as_mut_ptr(), out.len(), &mut count) };
     written(reply, &out, count)
 }
 
@@ -228,6 +241,7 @@ extern "C" {
     ) -> u64;
     pub fn turnlist_greedy(n: u64, rows: *const u64, row_count: usize, out: *mut u64, out_len: usize, count: *mut u64) -> u64;
     pub fn turnlist_fixed_space(n: u64, rows: *const u64, row_count: usize, out: *mut u64, out_len: usize, count: *mut u64) -> u64;
+    pub fn turnlist_self_inverse(n: u64, rows: *const u64, row_count: usize, out: *mut u64, out_len: usize, count: *mut u64) -> u64;
     pub fn turnlist_rebuild(n: u64, vectors: *const u64, vector_count: usize, out: *mut u64, out_len: usize, count: *mut u64) -> u64;
     pub fn turnlist_shorter(
         n: u64,

@@ -39,8 +39,8 @@ extern "C" {
 
 #define TURNLIST_MOST_QUBITS 32
 
-/* How many words an action takes, and how many output words the two lists want. The fixed space wants as many as an
- * action takes. */
+/* How many words an action takes, and how many output words the minimal and the greedy list want. The list of a
+ * self-inverse action wants as many as the minimal one, the fixed space as many as an action takes. */
 #define TURNLIST_ROWS(n) (2 * (n))
 #define TURNLIST_MINIMAL_WORDS(n) (2 * (n) + 1)
 #define TURNLIST_GREEDY_WORDS(n) (4 * (n) + 2)
@@ -63,7 +63,8 @@ enum turnlist_reply {
     TURNLIST_EQUAL_QUBITS = 11,    /* the two qubits of a gate are equal */
     TURNLIST_NEITHER_MATCHES = 14, /* neither list has the action for its product */
     TURNLIST_MALFORMED_SHEET = 15, /* a sheet whose counts, lines or offsets are wrong */
-    TURNLIST_BAD_TURN = 16         /* a sheet with a turn that is zero, above 15, or on a second qubit that is not there */
+    TURNLIST_BAD_TURN = 16,        /* a sheet with a turn that is zero, above 15, or on a second qubit that is not there */
+    TURNLIST_NOT_SELF_INVERSE = 17 /* the action times itself is not the identity */
 };
 
 /* The gates of turnlist_six_gates. */
@@ -123,6 +124,16 @@ uint64_t turnlist_greedy(uint64_t n, const uint64_t *rows, size_t row_count,
  * Wants 2n rows and at least 2n output words, whatever the count. Refuses with 1 to 5. */
 uint64_t turnlist_fixed_space(uint64_t n, const uint64_t *rows, size_t row_count,
                               uint64_t *out, size_t out_len, uint64_t *count);
+
+/* A list of a self-inverse action F, one with F times F equal to the identity, by no search: *count turns whose product is
+ * the action, and no list of it is shorter. All its vectors pair to 0 with each other, so the turns commute.
+ *
+ * Several lists may be such; which of them is listed is the call's choice. *count is 0 for the identity. For any other F it
+ * is r + 1 if <u,uF> = 0 for all u, and r if not, where r is the rank of I + F.
+ *
+ * Wants 2n rows and at least 2n + 1 output words. Refuses with 1 to 5, then with 17 if F times F is not the identity. */
+uint64_t turnlist_self_inverse(uint64_t n, const uint64_t *rows, size_t row_count,
+                               uint64_t *out, size_t out_len, uint64_t *count);
 
 /* The product of any list of vectors: its 2n rows, and *count is 2n. A zero vector changes nothing.
  *

@@ -1,5 +1,5 @@
-//! All calls on one action: the minimal list at several budgets, the greedy list, both lists rebuilt, the fixed space, and the
-//! shorter of two lists.
+//! All calls on one action: the minimal list at several budgets, the greedy list, both lists rebuilt, the fixed space, the list of
+//! a self-inverse action, and the shorter of two lists.
 use crate::check::Checker;
 use crate::fixed;
 use crate::library::{Call, Question};
@@ -28,9 +28,10 @@ impl Sample<'_> {
         let greedy = check.call(self.family, &question).list().to_vec();
         self.rebuild(check, &greedy);
         let fixed = self.fixed_space(check);
+        let self_inverse = self.self_inverse(check, minimal.as_ref().map(|(list, _)| list.len()));
         self.shorter(check, minimal.as_ref().map_or(&greedy, |(list, _)| list), &greedy);
         let (minimal, looks) = minimal?;
-        Some(Listed { n: self.n, rows: self.rows.to_vec(), minimal, looks, greedy, fixed })
+        Some(Listed { n: self.n, rows: self.rows.to_vec(), minimal, looks, greedy, fixed, self_inverse })
     }
 
     fn minimal_list(&self, check: &mut Checker) -> Option<(Vec<u64>, u64)> {
@@ -79,6 +80,18 @@ impl Sample<'_> {
         let wrong = fixed::flaw(self.n, self.rows, &list);
         check.require(wrong.is_none(), &question, wrong.unwrap_or_default());
         list
+    }
+
+    /// The list of a self-inverse action, which has as many turns as the minimal one, if that is known; none of any other action.
+    fn self_inverse(&self, check: &mut Checker, least: Option<usize>) -> Option<Vec<u64>> {
+        let question = Question::of_words(Call::SelfInverse, self.n as u64, self.rows, 2 * self.n + 1 + self.spare);
+        let seen = check.call(self.family, &question);
+        let list = (seen.number == 0).then(|| seen.list().to_vec())?;
+        check.require(least.is_none_or(|least| list.len() == least), &question, "not as long as the minimal list");
+        let tally = check.tally(self.family);
+        tally.self_inverse += 1;
+        tally.without_search += u64::from(least.is_none());
+        Some(list)
     }
 
     /// The choice from lists made of the minimal one (if it is not known, of the greedy one) and the greedy one.

@@ -2,6 +2,7 @@
 use crate::library::{answer, Call, Question, Seen, Spoil, SIX_GATES};
 use crate::memory::Memory;
 use crate::model::{self, Reply};
+use crate::self_inverse;
 use std::fmt::Debug;
 
 /// The widths of the table's columns, each up to the number given.
@@ -15,6 +16,9 @@ pub struct Tally {
     pub extra_turn: u64,
     pub spent: u64,
     pub most_looks: u64,
+    pub self_inverse: u64,
+    /// Self-inverse actions whose search is spent.
+    pub without_search: u64,
 }
 
 #[derive(Default)]
@@ -24,7 +28,7 @@ pub struct Checker {
     pub differ: u64,
     /// Gate calls compared with the scope paper's table too.
     on_our_six: u64,
-    refusals: [u64; 17],
+    refusals: [u64; 18],
     plant: Option<u64>,
     quiet: bool,
 }
@@ -38,6 +42,7 @@ pub fn expected(question: &Question) -> Seen {
         Call::Remembering { budget } => model::remembering(n, words, budget, &mut memory, out),
         Call::Greedy => model::greedy(n, words, out),
         Call::FixedSpace => model::fixed_space(n, words, out),
+        Call::SelfInverse => return expected_count(question),
         Call::Rebuild => model::rebuild(n, words, out),
         Call::Shorter => return expected_choice(question),
         Call::Sheet => return Seen::untouched(model::sheet_number(&question.sheet), question),
@@ -74,6 +79,30 @@ fn expected_choice(question: &Question) -> Seen {
         Err(number) => Seen::untouched(number, question),
         Ok(chosen) => Seen { chosen, ..Seen::untouched(0, question) },
     }
+}
+
+/// The same of the call that chooses its list: the count, and no word listed yet.
+fn expected_count(question: &Question) -> Seen {
+    match model::self_inverse(question.n, &question.words, question.out) {
+        Err(number) => Seen::untouched(number, question),
+        Ok(count) => Seen { count: count as u64, ..Seen::untouched(0, question) },
+    }
+}
+
+/// What a caller should see, with as many words as are to be listed taken from what was seen, where the choice is the library's.
+fn with_choice(mut want: Seen, question: &Question, seen: &Seen) -> Seen {
+    if question.call == Call::SelfInverse && want.number == 0 {
+        let listed = want.count as usize;
+        want.out[..listed].copy_from_slice(&seen.out[..listed]);
+    }
+    want
+}
+
+/// What keeps a list from being one that the library may choose.
+fn flaw_of_choice(question: &Question, seen: &Seen) -> Option<String> {
+    let chosen = question.call == Call::SelfInverse && seen.number == 0;
+    let flaw = || self_inverse::flaw(question.n as usize, &question.words, seen.list());
+    chosen.then(flaw)?.map(str::to_string)
 }
 
 /// What a model, which is named, and the library say differently.
@@ -143,6 +172,7 @@ impl Checker {
     pub fn call_spoiled(&mut self, family: &'static str, question: &Question, spoil: Option<Spoil>) -> Seen {
         let (want, of_six) = (expected(question), expected_of_six(question));
         let mut seen = answer(question, spoil);
+        let want = with_choice(want, question, &seen);
         self.calls += 1;
         if self.plant == Some(self.calls) {
             *match (question.call, seen.memory.last_mut()) {
@@ -156,7 +186,7 @@ impl Checker {
         self.tally(family).calls[band] += 1;
         self.refusals[want.number as usize] += 1;
         self.on_our_six += u64::from(of_six.is_some());
-        if let Some(text) = unlike(&seen, &want, of_six.as_ref()) {
+        if let Some(text) = unlike(&seen, &want, of_six.as_ref()).or_else(|| flaw_of_choice(question, &seen)) {
             self.report(question, &text);
         }
         seen
@@ -193,6 +223,10 @@ impl Checker {
         for (family, t) in self.tallies.iter().filter(|(_, t)| t.actions > 0) {
             println!("{family:<20}{:>9}{:>14}{:>8}{:>12}", t.actions, t.extra_turn, t.spent, t.most_looks);
         }
+        let with_lists = self.tallies.iter().filter(|(_, t)| t.self_inverse > 0);
+        let counts: Vec<String> = with_lists.map(|(family, t)| format!("{family} {}", t.self_inverse)).collect();
+        let without_search: u64 = self.tallies.iter().map(|(_, t)| t.without_search).sum();
+        println!("\nself-inverse among them: {}; {without_search} of these are spent", counts.join(", "));
         // 12 and 13 are the job file's, and there is no 7
         let of_calls = self.refusals.iter().enumerate().filter(|(k, _)| ![7, 12, 13].contains(k));
         let counts: Vec<String> = of_calls.map(|(k, calls)| format!("{k}: {calls}")).collect();

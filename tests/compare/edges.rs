@@ -9,14 +9,15 @@ use crate::words::{identity, product};
 const BUDGET: u64 = 2_000;
 
 /// The calls that take an action and list words.
-fn action_calls() -> [Call; 4] {
-    [Call::Minimal { budget: BUDGET }, Call::Remembering { budget: BUDGET }, Call::Greedy, Call::FixedSpace]
+fn action_calls() -> [Call; 5] {
+    let (minimal, remembering) = (Call::Minimal { budget: BUDGET }, Call::Remembering { budget: BUDGET });
+    [minimal, remembering, Call::Greedy, Call::FixedSpace, Call::SelfInverse]
 }
 
 /// Those, and a rebuild of the rows.
-fn word_calls() -> [Call; 5] {
-    let [minimal, remembering, greedy, fixed_space] = action_calls();
-    [minimal, remembering, greedy, fixed_space, Call::Rebuild]
+fn word_calls() -> [Call; 6] {
+    let [minimal, remembering, greedy, fixed_space, self_inverse] = action_calls();
+    [minimal, remembering, greedy, fixed_space, self_inverse, Call::Rebuild]
 }
 
 /// Up to this many turns, none of them zero.
@@ -177,7 +178,7 @@ fn damage(random: &mut Random, rows: &mut [u64]) {
 pub fn several(check: &mut Checker, layers: &mut Layers, samples: usize) {
     for _ in 0..samples {
         let n = 1 + layers.random.below(32);
-        let (question, planted) = match word_calls().get(layers.random.below(6)) {
+        let (question, planted) = match word_calls().get(layers.random.below(7)) {
             None => several_lists(layers, n),
             Some(Call::Rebuild) => several_rebuild(layers, n),
             Some(call) => several_rows(layers, n, *call),
@@ -205,7 +206,7 @@ pub fn several_rows(layers: &mut Layers, n: usize, call: Call) -> (Question, Vec
 }
 
 /// Plants those of the refusals 1 to 4 that are named; the qubit count to pass.
-fn plant(random: &mut Random, n: usize, rows: &mut Vec<u64>, planted: &[u64]) -> u64 {
+pub fn plant(random: &mut Random, n: usize, rows: &mut Vec<u64>, planted: &[u64]) -> u64 {
     if planted.contains(&4) {
         damage(random, rows);
     }

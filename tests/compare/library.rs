@@ -1,4 +1,4 @@
-//! The eight functions of the library behind one safe call. Every lent buffer stands between guard words of a known pattern.
+//! The nine functions of the library behind one safe call. Every lent buffer stands between guard words of a known pattern.
 use std::ops::Range;
 
 #[allow(dead_code)]
@@ -7,7 +7,7 @@ mod turnlist;
 pub use turnlist::SIX_GATES;
 use turnlist::{
     turnlist_fixed_space, turnlist_gates, turnlist_greedy, turnlist_minimal, turnlist_minimal_remembering,
-    turnlist_rebuild, turnlist_sheet, turnlist_shorter,
+    turnlist_rebuild, turnlist_self_inverse, turnlist_sheet, turnlist_shorter,
 };
 
 #[derive(Clone, Copy, Debug, PartialEq)]
@@ -16,6 +16,7 @@ pub enum Call {
     Remembering { budget: u64 },
     Greedy,
     FixedSpace,
+    SelfInverse,
     Rebuild,
     Shorter,
     Sheet,
@@ -203,6 +204,7 @@ impl Lent {
                 }
                 Call::Greedy => turnlist_greedy(n, words, word_count, out, question.out, count),
                 Call::FixedSpace => turnlist_fixed_space(n, words, word_count, out, question.out, count),
+                Call::SelfInverse => turnlist_self_inverse(n, words, word_count, out, question.out, count),
                 Call::Rebuild => turnlist_rebuild(n, words, word_count, out, question.out, count),
                 Call::Shorter => {
                     let chosen = self.chosen.pointer();

@@ -1,8 +1,9 @@
-//! The library's eight calls beside an independent model, and beside the Rust source where its program is named.
+//! The library's nine calls beside an independent model, and beside the Rust source where its program is named.
 //! Arguments: the source's program or `-`; the reference answers with a memory or `-`; then, if wanted, `three` (every action on
 //! 3 qubits too), or `plant` and the number of a call whose count, choice, sheet's number or last memory word is to be damaged.
 mod actions;
 mod check;
+mod echoes;
 mod edges;
 mod fixed;
 mod layers;
@@ -11,8 +12,10 @@ mod memory;
 mod minimal;
 mod model;
 mod remembering;
+mod self_inverse;
 mod selftest;
 mod selftest_memory;
+mod selftest_self_inverse;
 mod selftest_sheets;
 mod sheet;
 mod sheet_edges;
@@ -38,9 +41,13 @@ const SAMPLES: usize = 150;
 /// Every symplectic action on 0 to this many qubits.
 fn every_action(check: &mut Checker, most: usize, listed: &mut Vec<Listed>) {
     for n in 0..=most {
-        for (k, (rows, _)) in all_actions(n).iter().enumerate() {
+        for (k, (rows, list)) in all_actions(n).iter().enumerate() {
             let sample = Sample { family: "every action", n, rows, spare: k % 3, cap: 1_000_000 };
             listed.extend(sample.compare(check));
+            // the list by breadth is as short as any
+            let question = Question::of_words(Call::SelfInverse, n as u64, rows, 2 * n + 1);
+            let seen = check.call("every action", &question);
+            check.require(seen.number != 0 || seen.list().len() == list.len(), &question, "not the least length");
         }
     }
 }
@@ -51,14 +58,14 @@ fn every_matrix(check: &mut Checker) {
         let values = 1u64 << (2 * n);
         for code in 0..values.pow(2 * n as u32) {
             let rows: Vec<u64> = (0..2 * n as u32).map(|k| code / values.pow(k) % values).collect();
-            for call in [Call::Minimal { budget: 3 }, Call::Greedy, Call::FixedSpace] {
+            for call in [Call::Minimal { budget: 3 }, Call::Greedy, Call::FixedSpace, Call::SelfInverse] {
                 check.call("every matrix", &Question::of_words(call, n as u64, &rows, 4 * n + 2));
             }
         }
     }
     for (a, b) in (0..64).flat_map(|a| (0..64).map(move |b| (a, b))) {
         let wide = |code: u64| code & 7 | (code >> 3 & 1) << 3 | (code >> 4 & 1) << 31 | (code >> 5) << 63;
-        for call in [Call::Minimal { budget: 3 }, Call::FixedSpace] {
+        for call in [Call::Minimal { budget: 3 }, Call::FixedSpace, Call::SelfInverse] {
             check.call("every matrix", &Question::of_words(call, 1, &[wide(a), wide(b)], 3));
         }
     }
@@ -140,6 +147,16 @@ fn with_sheets(check: &mut Checker, random: &mut Random, samples: usize) -> [she
     [edges, drawn]
 }
 
+/// Self-inverse layers, as many of each kind and width as are asked for, and the edges of their call.
+fn with_echoes(check: &mut Checker, random: &mut Random, samples: usize, listed: &mut Vec<Listed>) {
+    echoes::sampled(check, random, samples, listed);
+    echoes::lengths(check, random);
+    echoes::one_qubit(check, random);
+    echoes::one_turn(check, random, 400 * samples);
+    echoes::exchanged(check);
+    echoes::several(check, random, 400 * samples);
+}
+
 /// The reference answers in a file; ends the program where they cannot be read.
 fn against_vectors(check: &mut Checker, file: &str) -> String {
     if file == "-" {
@@ -165,7 +182,9 @@ fn against_source(program: &str, listed: &[Listed]) -> u64 {
         println!("the Rust source did not run: {error}");
         1
     });
-    println!("both lists and the fixed space of {} actions beside the Rust source's, {differ} differ", listed.len());
+    let (all, of_lengths) = (listed.len(), listed.iter().filter(|listed| listed.self_inverse.is_some()).count());
+    print!("both lists and the fixed space of {all} actions beside the Rust source's, and the list of {of_lengths} self-inverse ");
+    println!("ones by its length, {differ} differ");
     differ
 }
 
@@ -180,6 +199,9 @@ fn test_self() {
         selftest_memory::memories(),
         selftest_memory::entries(),
         selftest_memory::reference_lines(),
+        selftest_self_inverse::numbers(),
+        selftest_self_inverse::lists(),
+        selftest_self_inverse::kinds(),
         selftest_sheets::numbers(),
         selftest_sheets::actions(),
         selftest_sheets::refusals(),
@@ -215,6 +237,7 @@ fn main() {
     all_edges(&mut check, &mut layers, 20_000);
     let summary = with_memory(&mut check, &mut layers, most, 5_000);
     let of_sheets = with_sheets(&mut check, &mut layers.random, 20_000);
+    with_echoes(&mut check, &mut layers.random, 10, &mut listed);
     let of_vectors = against_vectors(&mut check, named(1));
     check.print_table();
     summary.print();

@@ -1,8 +1,10 @@
-//! The eight calls again, plainly, from the scope paper (the fixed space from request 3, the shorter list from request 4, the
-//! memory from request 6, the gate sheet from request 8): the questions in their order, then the answer.
+//! The nine calls again, plainly, from the scope paper (the fixed space from request 3, the shorter list from request 4, the
+//! memory from request 6, the gate sheet from request 8, self-inverse actions from request 9): the questions in their order, then
+//! the answer.
 use crate::fixed;
 use crate::memory::Memory;
 use crate::minimal::minimal_list;
+use crate::self_inverse;
 use crate::sheet;
 use crate::words::{mask, pairing, product, symplectic};
 
@@ -77,6 +79,14 @@ pub fn fixed_space(n: u64, rows: &[u64], out: usize) -> Reply {
     let n = action_questions(n, rows)?;
     ask(out >= 2 * n, 5)?;
     Ok((fixed::basis(n, rows), 0))
+}
+
+/// How many turns are listed, or the refusal; which turns they are is the library's choice.
+pub fn self_inverse(n: u64, rows: &[u64], out: usize) -> Result<usize, u64> {
+    let n = action_questions(n, rows)?;
+    ask(out > 2 * n, 5)?;
+    ask(self_inverse::is_self_inverse(n, rows), 17)?;
+    Ok(self_inverse::length(n, rows))
 }
 
 pub fn rebuild(n: u64, vectors: &[u64], out: usize) -> Reply {

@@ -51,7 +51,7 @@ fn damages() -> Vec<(&'static str, Damage)> {
     ]
 }
 
-/// Answers and refusals of all eight calls.
+/// Answers and refusals of all nine calls.
 fn questions() -> Vec<Question> {
     let rows = [2, 1, 8, 4, 0x20, 0x10].map(|k: u64| k ^ 1);
     let swap = [2, 1, 8, 4];
@@ -75,6 +75,12 @@ fn questions() -> Vec<Question> {
         Question::of_words(Call::Greedy, 2, &hadamards, 9),
         Question::of_words(Call::FixedSpace, 2, &swap, 6),
         Question::of_words(Call::FixedSpace, 2, &hadamards, 3),
+        Question::of_words(Call::SelfInverse, 2, &swap, 6),
+        Question::of_words(Call::SelfInverse, 2, &hadamards, 5),
+        Question::of_words(Call::SelfInverse, 2, &identity(2), 5),
+        Question::of_words(Call::SelfInverse, 2, &swap, 4),
+        Question::of_words(Call::SelfInverse, 1, &[3, 1], 3),
+        Question::of_words(Call::SelfInverse, 2, &rows, 5),
         Question::of_words(Call::Rebuild, 2, &[3, 0, 15], 4),
         Question::of_words(Call::Rebuild, 2, &[3, 16], 4),
         Question::of_lists(2, &swap, &[12, 15, 3], &[3, 15, 0, 12]),
@@ -121,8 +127,9 @@ pub fn planted() -> Result<u64, String> {
 
 /// Lines of the source that say something else than the library are seen to; another basis of the same fixed space does not.
 pub fn source_lines() -> Result<(), String> {
-    let (minimal, greedy) = (vec![5, 10], vec![10, 5]);
-    let listed = Listed { n: 2, rows: vec![4, 8, 1, 2], minimal, looks: 2, greedy, fixed: vec![5, 10] };
+    let (minimal, greedy, self_inverse) = (vec![5, 10], vec![10, 5], Some(vec![10, 5]));
+    let mut listed =
+        Listed { n: 2, rows: vec![4, 8, 1, 2], minimal, looks: 2, greedy, fixed: vec![5, 10], self_inverse };
     let agree = |lines: [&str; 4]| agrees(&listed, &lines.map(String::from));
     let of_fixed = |line: &'static str| ["min: 5 a", "visits: 2", "greedy: a 5", line];
     let right = ["fixed: 5 a", "fixed: a 5", "fixed: 5 f", "fixed: f a"].map(of_fixed);
@@ -137,6 +144,14 @@ pub fn source_lines() -> Result<(), String> {
     ];
     if !right.into_iter().all(agree) || other_spaces.into_iter().chain(other_lists).any(agree) {
         return Err("the source's lines are misread".to_string());
+    }
+    let lines = ["min: 5 a", "visits: 2", "greedy: a 5", "fixed: 5 a"].map(String::from);
+    let lists = [(None, true), (Some(vec![5, 10]), true), (Some(vec![5]), false), (Some(vec![10, 5, 0]), false)];
+    for (list, right) in lists {
+        listed.self_inverse = list;
+        if agrees(&listed, &lines) != right {
+            return Err("the length of a self-inverse action's list is misjudged".to_string());
+        }
     }
     Ok(())
 }

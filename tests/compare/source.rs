@@ -4,7 +4,7 @@ use std::fs::File;
 use std::io::{BufRead, BufReader, BufWriter, Write};
 use std::process::{Command, Stdio};
 
-/// An action, and the lists and the fixed space that the library gave for it.
+/// An action, and the lists and the fixed space that the library gave for it; of the lists that of a self-inverse one if it is.
 pub struct Listed {
     pub n: usize,
     pub rows: Vec<u64>,
@@ -12,6 +12,7 @@ pub struct Listed {
     pub looks: u64,
     pub greedy: Vec<u64>,
     pub fixed: Vec<u64>,
+    pub self_inverse: Option<Vec<u64>>,
 }
 
 fn hexadecimal(words: &[u64]) -> String {
@@ -24,14 +25,16 @@ fn read(line: &str, name: &str) -> Option<Vec<u64>> {
 }
 
 /// The visits of the source, which passes over known failures, are no more than the looks. Its basis of the fixed space may be
-/// another one of the same space.
+/// another one of the same space. The list of a self-inverse action has as many turns as its minimal one.
 pub fn agrees(listed: &Listed, [minimal, visits, greedy, fixed]: &[String; 4]) -> bool {
     let visits = visits.strip_prefix("visits: ").and_then(|text| text.parse::<u64>().ok());
+    let as_long = |list: &Vec<u64>| read(minimal, "min:").is_some_and(|least| least.len() == list.len());
     let same_space = |basis: Vec<u64>| basis.len() == listed.fixed.len() && reduced(&basis) == listed.fixed;
     *minimal == format!("min:{}", hexadecimal(&listed.minimal))
         && visits.is_some_and(|visits| visits <= listed.looks)
         && *greedy == format!("greedy:{}", hexadecimal(&listed.greedy))
         && read(fixed, "fixed:").is_some_and(same_space)
+        && listed.self_inverse.as_ref().is_none_or(as_long)
 }
 
 /// Asks the program for every action; how many differ.
@@ -60,7 +63,7 @@ pub fn compare(program: &str, all: &[Listed]) -> std::io::Result<u64> {
 }
 
 fn report(listed: &Listed, said: &[String; 4]) {
-    let Listed { n, rows, minimal, looks, greedy, fixed } = listed;
+    let Listed { n, rows, minimal, looks, greedy, fixed, self_inverse } = listed;
     println!("differs from the source: n = {n}, rows {rows:x?}\n  source  {said:?}");
-    println!("  library min {minimal:x?}, looks {looks}, greedy {greedy:x?}, fixed {fixed:x?}");
+    println!("  library min {minimal:x?}, looks {looks}, greedy {greedy:x?}, fixed {fixed:x?}, self-inverse {self_inverse:x?}");
 }

@@ -8,7 +8,7 @@
 #include <string.h>
 #include "turnlist.h"
 
-enum { QUBITS = TURNLIST_MOST_QUBITS, ROOM = 1 << 20, BYTES = 3 * 8 * QUBITS, MEMORY = 6500, PATTERN = 0xa5, CALLS = 8 };
+enum { QUBITS = TURNLIST_MOST_QUBITS, ROOM = 1 << 20, BYTES = 3 * 8 * QUBITS, MEMORY = 6500, PATTERN = 0xa5, CALLS = 9 };
 
 static unsigned char *stack;
 static uint64_t state = 1;
@@ -56,6 +56,9 @@ static void *run(void *lent) {
     case 8:
         w->count = turnlist_sheet(turnlist_six_gates, TURNLIST_SIX_GATES_BYTES);
         break;
+    case 9:
+        turnlist_self_inverse(QUBITS, w->rows, rows, w->list, TURNLIST_MINIMAL_WORDS(QUBITS), &w->count);
+        break;
     }
     return NULL;
 }
@@ -87,19 +90,32 @@ static void layer(struct work *w, int highest, int gates) {
     }
 }
 
+/* SWAPs of the qubits two by two: self-inverse, as H alone is. The gates behind them, H on qubit 0, are an even number. */
+static void swaps(struct work *w) {
+    memset(w->gates, 0, BYTES);
+    for (int i = 0; i < QUBITS / 2; i++) {
+        w->gates[3 * i] = TURNLIST_SWAP;
+        w->gates[3 * i + 1] = (uint8_t)(2 * i);
+        w->gates[3 * i + 2] = (uint8_t)(2 * i + 1);
+    }
+}
+
 int main(void) {
     static struct work w;
     static const char *const names[] = {
         "", "turnlist_minimal", "turnlist_greedy", "turnlist_rebuild", "turnlist_gates", "turnlist_fixed_space",
-        "turnlist_shorter", "turnlist_minimal_remembering", "turnlist_sheet",
+        "turnlist_shorter", "turnlist_minimal_remembering", "turnlist_sheet", "turnlist_self_inverse",
     };
     size_t most[CALLS + 1] = {0}, bare;
     stack = aligned_alloc(4096, ROOM);
     if (stack == NULL) return 1;
     bare = used(&w, 0);
     for (int i = 0; i < 200; i++) {
-        layer(&w, i % 6, i % 6 == 0 ? QUBITS : 8 * QUBITS);
-        int order[CALLS] = {4, 1, 7, 5, 2, 6, 3, 8}; /* the greedy list is held against the minimal one, then rebuilt */
+        if (i % 7 == 6)
+            swaps(&w);
+        else
+            layer(&w, i % 7, i % 7 == 0 ? QUBITS : 8 * QUBITS);
+        int order[CALLS] = {4, 1, 7, 5, 9, 2, 6, 3, 8}; /* the greedy list is held against the minimal one, then rebuilt */
         for (int k = 0; k < CALLS; k++) {
             size_t bytes = used(&w, order[k]) - bare;
             if (most[order[k]] < bytes) most[order[k]] = bytes;

@@ -1,11 +1,12 @@
--- What is computed: every starred example of document 01, and those of the fixed space, of the shorter list, of the commutation chart, of a lent memory and of gate sheets, as the definitions answer them.
+-- What is computed: every starred example of document 01, and those of the fixed space, of the shorter list, of the commutation chart, of a lent memory, of gate sheets and of self-inverse layers, as the definitions answer them.
 -- Assumes nothing.
 use mathlib.Core.Path.{_≡_, refl}
 use mathlib.Core.Bool.{true, false}
-use mathlib.Core.List.{[], _∷_, map, zip, zipWith, flatten}
-use Rattle.bench_examples.specs.Table.{Example, answer, table, memories, sheets}
+use mathlib.Core.List.{List, [], _∷_, map, zip, zipWith, flatten}
+use Prim.Native.Nat.{ℕ}
+use Rattle.bench_examples.specs.Table.{Example, answer, table, memories, sheets, echoes}
 use Rattle.binar.specs.Bits.{odd, bit, _⊕_, weight, dot}
-use Rattle.blocks.specs.Matrices.{times, units, dots}
+use Rattle.blocks.specs.Matrices.{times, matmul, units, dots}
 use Rattle.blocks.specs.Words.{rowsOfWords, wordOf, wordsOfRows, laid, over}
 use Rattle.symplectic.specs.Picks.{firstOne, unevenWith, firstUneven, pick}
 use Rattle.symplectic.specs.Matches.{fitAll, matches}
@@ -15,6 +16,7 @@ use Rattle.reduction.specs.Columns.{columns, rowReduceWithTransform, rank}
 use Rattle.residue.specs.Residue.{residue, reduction, basis, transform, timesTransposed, core, form}
 use Rattle.shorter.specs.Shorter.{shorterOf, shorterReply, partOf}
 use Rattle.fixed_space.specs.FixedSpace.{kernel, reducedBasis, fixedSpace, fixedReply}
+use Rattle.self_inverse.specs.SelfInverse.{selfInverse, selfInverseQuestions, selfInverseReply}
 use Rattle.triangular.specs.Search.{draws, search, budgeted}
 use Rattle.triangular.specs.Memory.{entryBasis, isSpace, holds, enter, drawsWith, searchWith, knownWithin}
 use Rattle.triangular.specs.Spaces.{complement, symmetricWith, isAlternating}
@@ -43,6 +45,15 @@ remembered = refl
 pub loaded : map (λ (e : Example). answer (e .call)) sheets ≡ map (λ (e : Example). e .expected) sheets
 unfolding sheets answer odd bit _⊕_ weight dot units rowsOfWords wordOf wordsOfRows laid sizeQuestion countQuestion xBits zBits pairing turn followed product gateCount sheetLine linesFrom lines gateOf gatesOf lineFits wellFormed turnFits gateFits sheetQuestions sixGates turnVector gate readsTwo gateQuestions sequenceQuestions sequenceTurns sequenceReply gatesReply littleEndian part number
 loaded = refl
+
+pub self-inverse : map (λ (e : Example). answer (e .call)) echoes ≡ map (λ (e : Example). e .expected) echoes
+unfolding echoes answer zip odd bit _⊕_ weight dot times matmul units rowsOfWords wordOf wordsOfRows laid fitAll sizeQuestion countQuestion actionQuestions listQuestions xBits zBits pairing turn followed product pairAlike symplectic selfInverse selfInverseQuestions selfInverseReply turnVector gate readsTwo gateQuestions sequenceQuestions sequenceTurns sequenceReply tableReply ourTable
+self-inverse = refl
+
+-- the rank of I + F of the SWAP, which takes one turn more, and of the identity
+pub ranks : map (λ (F : List ℕ). rank 4 (identityPlus 2 F)) ((2 ∷ 1 ∷ 8 ∷ 4 ∷ []) ∷ (1 ∷ 2 ∷ 4 ∷ 8 ∷ []) ∷ []) ≡ 2 ∷ 0 ∷ []
+unfolding rank identityPlus columns rowReduceWithTransform zip zipWith odd bit _⊕_ units
+ranks = refl
 
 -- document 01's checks of a bordered candidate: that of a SWAP passes, that of the identity, which has a triangular basis, does not
 pub checked : map (candidatePasses 2) ((2 ∷ 1 ∷ 8 ∷ 4 ∷ []) ∷ (1 ∷ 2 ∷ 4 ∷ 8 ∷ []) ∷ []) ≡ true ∷ false ∷ []

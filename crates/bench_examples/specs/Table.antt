@@ -1,5 +1,5 @@
 -- The starred bench examples of document 01, and examples of the fixed space, of the shorter list, of the commutation chart, of a lent
--- memory and of gate sheets (document 02, items 3 to 6 and 8), as tables of calls and expected answers.
+-- memory, of gate sheets and of self-inverse layers (document 02, items 3 to 6, 8 and 9), as tables of calls and expected answers.
 -- Expected values are literals.
 -- In each call the lent output words and memory hold 9 at entry, so that the words left unchanged can be seen. The actions of H and CX are made
 -- from document 01's gate sheet.
@@ -15,6 +15,7 @@ use Rattle.gates.specs.Sequences.{gatesReply, tableReply}
 use Rattle.shorter.specs.declared.Chosen.{Chosen}
 use Rattle.shorter.specs.Shorter.{shorterReply, partOf}
 use Rattle.fixed_space.specs.FixedSpace.{fixedReply}
+use Rattle.self_inverse.specs.SelfInverse.{selfInverseReply}
 use Rattle.transvection.specs.Greedy.{greedyReply}
 use Rattle.transvection_exact.specs.Minimal.{minimalReply, rememberingReply, memoryLeft}
 use Rattle.letters.specs.declared.Letter.{Letter}
@@ -32,6 +33,8 @@ pub data Call : Type 0 where
   greedy : ℕ → List ℕ → ℕ → Call
   -- n, rows, how many output words are lent
   fixed : ℕ → List ℕ → ℕ → Call
+  -- n, rows, a list, how many output words are lent
+  selfInverse : ℕ → List ℕ → List ℕ → ℕ → Call
   -- n, rows, the first list, the second list
   shorter : ℕ → List ℕ → List ℕ → List ℕ → Call
   -- n, the sheet in force, the bytes of a gate sequence, how many output rows are lent
@@ -76,6 +79,7 @@ answer (minimal n rows budget lent) = replied (minimalReply n rows budget (repli
 answer (remembering n rows budget words lent) = let memory : List ℕ = replicate words 9 in let out : List ℕ = replicate lent 9 in recalled (rememberingReply n rows budget memory out) (memoryLeft n rows budget memory out)
 answer (greedy n rows lent) = replied (greedyReply n rows (replicate lent 9))
 answer (fixed n rows lent) = replied (fixedReply n rows (replicate lent 9))
+answer (selfInverse n rows vs lent) = replied (selfInverseReply n rows vs (replicate lent 9))
 answer (shorter n rows first second) = picked first second (shorterReply n rows first second)
 answer (gates n sheet bytes lent) = replied (gatesReply n sheet bytes (replicate lent 9))
 answer (load lent former) = puts (sheetQuestions lent) (inForce (sheetQuestions lent) lent former)
@@ -223,4 +227,21 @@ sheets =
     ∷ (gates 2 [] (1 ∷ 0 ∷ 1 ∷ []) 3 gives replies 2 0 0 (9 ∷ 9 ∷ 9 ∷ []))
     ∷ (gates 2 [] (1 ∷ 0 ∷ 1 ∷ []) 4 gives replies 15 0 0 (9 ∷ 9 ∷ 9 ∷ 9 ∷ []))
     ∷ (gates 2 (oneGate 1 1 5 (2 ∷ [])) [] 4 gives replies 16 0 0 (9 ∷ 9 ∷ 9 ∷ 9 ∷ []))
+    ∷ []
+
+-- self-inverse layers, with a list that the call may choose
+unfoldable pub echoes : List Example
+echoes =
+    -- n = 0, and the identity: no turns
+    (selfInverse 0 [] [] 1 gives replies 0 0 0 (9 ∷ []))
+    ∷ (selfInverse 1 (1 ∷ 2 ∷ []) [] 3 gives replies 0 0 0 (9 ∷ 9 ∷ 9 ∷ []))
+    -- H: Y; SWAP: XX YY ZZ, and the word behind them unchanged
+    ∷ (selfInverse 1 (played 1 (0 ∷ 0 ∷ 0 ∷ [])) (3 ∷ []) 3 gives replies 0 1 0 (3 ∷ 9 ∷ 9 ∷ []))
+    ∷ (selfInverse 2 (played 2 (5 ∷ 0 ∷ 1 ∷ [])) (3 ∷ 15 ∷ 12 ∷ []) 5 gives replies 0 3 0 (3 ∷ 15 ∷ 12 ∷ 9 ∷ 9 ∷ []))
+    -- X to Z and Z to Y, which has order 3: 17, and with 2 words 5
+    ∷ (selfInverse 1 (2 ∷ 3 ∷ []) [] 3 gives replies 17 0 0 (9 ∷ 9 ∷ 9 ∷ []))
+    ∷ (selfInverse 1 (2 ∷ 3 ∷ []) [] 2 gives replies 5 0 0 (9 ∷ 9 ∷ []))
+    -- both rows Z: 4; n = 33: 1
+    ∷ (selfInverse 1 (2 ∷ 2 ∷ []) [] 3 gives replies 4 0 0 (9 ∷ 9 ∷ 9 ∷ []))
+    ∷ (selfInverse 33 [] [] 3 gives replies 1 0 0 (9 ∷ 9 ∷ 9 ∷ []))
     ∷ []

@@ -1,18 +1,21 @@
 -- What a call promises of its answer holds of the figures, or of the list, that are read off the returned number and the lent numbers.
 -- Assumes nothing.
 use mathlib.Core.Path.{_≡_, refl, sym, ap, _∙_, subst}
-use mathlib.Core.Bool.{cond}
+use mathlib.Core.Bool.{Bool, true, false, cond}
 use mathlib.Core.List.{List}
 use Prim.Native.Nat.{ℕ, zero, suc}
 use lib.Dec.{eqb}
 use Rattle.questions.specs.declared.Figures.{Figures}
-use Rattle.questions.specs.Replies.{Reply, Replays}
+use Rattle.questions.specs.Replies.{Reply, nothingListed, Replays, Shortest}
 use Rattle.questions.proofs.Answered.{Meets}
 use Rattle.shorter.specs.declared.Chosen.{Chosen}
 use Rattle.shorter.specs.Shorter.{shorterReply, partOf}
 use Rattle.shorter.proofs.Promised.{Promised as Chooses, reply-list}
+use Rattle.self_inverse.specs.SelfInverse.{selfInverseReply}
+use Rattle.self_inverse.specs.Promises.{chosen, Commuting, Counted as RankCounted, Seventeen}
+use Rattle.self_inverse.proofs.Replied.{Met, met-figures}
 use Rattle.memory.specs.Entries.{roomIn}
-use Rattle.transvection_exact.specs.Answers.{Shortest, ExactWith, AsWithout, EveryLayer}
+use Rattle.transvection_exact.specs.Answers.{ExactWith, AsWithout, EveryLayer}
 use Rattle.transvection_exact.specs.Minimal.{minimalReply, rememberingReply, memoryLeft}
 use Rattle.transvection_exact.proofs.Remembering.{PromisedWith, MeetsWith, remembering-told}
 use Rattle.questions.specs.Answers.{lentNumber}
@@ -102,6 +105,32 @@ module _ (n : ℕ) (rows : List ℕ) (budget : ℕ) (memory out after left : Lis
             ap (λ (u : Figures). u .number) same,
             (w .1 .0, (w .1 .1, (told ∙ ap (λ (u : Figures). lentNumber (t .number) (u .count) before) same, drawn ∙ ap (λ (u : Figures). lentNumber (t .number) (u .looks) earlier) same))),
           )
+
+-- of the call for self-inverse actions, whose reply has the list that is read
+module _ (n : ℕ) (rows out left : List ℕ) (t f : Figures) (is : t ≡ f) (before count : ℕ) (told : count ≡ lentNumber (t .number) (t .count) before) where
+  pub lent-self-inverse : Met n rows out left f → let read = readFigures 0 (t .number) count 0 in let reply = selfInverseReply n rows (chosen n left read) out in
+      (t .number ≡ reply .figures .number) × ((left ≡ reply .words) × ((count ≡ lentNumber (t .number) (reply .figures .count) before)
+      × (Replays n rows left read × (Shortest n rows read × (Commuting n left read × (RankCounted n rows read × Seventeen n rows out read))))))
+  lent-self-inverse m =
+      subst (λ (u : Figures). let reply = selfInverseReply n rows (chosen n left u) out in
+      (t .number ≡ reply .figures .number) × ((left ≡ reply .words) × ((count ≡ lentNumber (t .number) (reply .figures .count) before)
+      × (Replays n rows left u × (Shortest n rows u × (Commuting n left u × (RankCounted n rows u × Seventeen n rows out u))))))) (sym (read-it ∙ is))
+      (ap (λ (u : Figures). u .number) (is ∙ m .0), (m .1 .0, (told ∙ ap (λ (u : Figures). lentNumber (t .number) (u .count) before) (is ∙ m .0), m .1 .1)))
+    where
+      known : (t .looks ≡ 0) × ((k : ℕ) → t .number ≡ suc k → t ≡ nothingListed (suc k))
+      known = subst (λ (u : Figures). (u .looks ≡ 0) × ((k : ℕ) → u .number ≡ suc k → u ≡ nothingListed (suc k))) (sym is) (met-figures n rows out left f m)
+
+      six : (k : ℕ) → nothingListed (suc k) ≡ readRefusal 0 (suc k)
+      six k = ap (λ (l : ℕ). record { number = suc k; count = 0; looks = l }) (same (eqb (suc k) 6))
+        where
+          same : (b : Bool) → _≡_ {A = ℕ} 0 (cond b 0 0)
+          same true = refl
+          same false = refl
+
+      read-it : readFigures 0 (t .number) count 0 ≡ t
+      read-it =
+          reads (λ u. u ≡ t) 0 (t .number) (t .count) 0 count 0 (lent-answer (t .number) (t .count) before count told) (λ z. refl)
+          (ap (λ (l : ℕ). record { number = t .number; count = t .count; looks = l }) (sym (known .0))) (λ k e. sym (known .1 k e ∙ six k))
 
 -- ---- the list that is chosen
 

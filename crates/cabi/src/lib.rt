@@ -4,16 +4,18 @@
 ghost use mathlib.Core.Path.{_≡_};
 ghost use Prim.Native.Nat.{_*_, _≤_};
 ghost use Rattle.blocks.specs.Words.{rowsOfWords};
-ghost use Rattle.questions.specs.Replies.{Replays, Rebuilds};
+ghost use Rattle.questions.specs.Replies.{Replays, Shortest, Rebuilds};
 ghost use Rattle.rebuild.specs.Rebuilds.{rebuildReply};
 ghost use Rattle.shorter.specs.Shorter.{shorterReply, partOf};
 ghost use Rattle.shorter.specs.Promises.{Played, NeitherShorter, FirstAtEqual, Neither};
 ghost use Rattle.fixed_space.specs.FixedSpace.{fixedReply};
 ghost use Rattle.fixed_space.specs.Promises.{InPlace, Complete, Reduced, Counted};
+ghost use Rattle.self_inverse.specs.SelfInverse.{selfInverseReply};
+ghost use Rattle.self_inverse.specs.Promises.{chosen, Commuting, Counted as RankCounted, Seventeen};
 ghost use Rattle.transvection.specs.Greedy.{greedyReply};
 ghost use Rattle.memory.specs.Entries.{roomIn};
 ghost use Rattle.transvection_exact.specs.Minimal.{minimalReply, rememberingReply, memoryLeft};
-ghost use Rattle.transvection_exact.specs.Answers.{Shortest, Exact, ExactWith, AsWithout, EveryLayer};
+ghost use Rattle.transvection_exact.specs.Answers.{Exact, ExactWith, AsWithout, EveryLayer};
 ghost use Rattle.sheets.specs.Sheets.{gatesOf, sheetQuestions};
 ghost use Rattle.gates.specs.Sequences.{sequenceTurns, gatesReply};
 ghost use Rattle.questions.specs.Answers.{lentNumber};
@@ -116,6 +118,29 @@ pub extern "C" fn turnlist_fixed_space(
     let fixed = questions::figures_of(answer);
     questions::tell(fixed.number, fixed.count, count);
     fixed.number
+}
+
+// A list of turns whose vectors all pair to 0, as short as any, for an action that is its own inverse.
+#[no_mangle]
+pub extern "C" fn turnlist_self_inverse(
+    n: u64,
+    rows: &[u64],
+    out: &mut [u64],
+    count: &mut u64,
+) -> u64
+    ensures answered { λ r. ⌜ r ≡ selfInverseReply n (now (rows .entry)) (chosen n (now (out .exit)) (readFigures 0 r (now (count .exit)) 0)) (now (out .entry)) .figures .number ⌝ }
+    ensures left { λ r. ⌜ now (out .exit) ≡ selfInverseReply n (now (rows .entry)) (chosen n (now (out .exit)) (readFigures 0 r (now (count .exit)) 0)) (now (out .entry)) .words ⌝ }
+    ensures counted { λ r. ⌜ now (count .exit) ≡ lentNumber r (selfInverseReply n (now (rows .entry)) (chosen n (now (out .exit)) (readFigures 0 r (now (count .exit)) 0)) (now (out .entry)) .figures .count) (now (count .entry)) ⌝ }
+    ensures replays { λ r. ⌜ Replays n (now (rows .entry)) (now (out .exit)) (readFigures 0 r (now (count .exit)) 0) ⌝ }
+    ensures shortest { λ r. ⌜ Shortest n (now (rows .entry)) (readFigures 0 r (now (count .exit)) 0) ⌝ }
+    ensures commuting { λ r. ⌜ Commuting n (now (out .exit)) (readFigures 0 r (now (count .exit)) 0) ⌝ }
+    ensures ranked { λ r. ⌜ RankCounted n (now (rows .entry)) (readFigures 0 r (now (count .exit)) 0) ⌝ }
+    ensures seventeen { λ r. ⌜ Seventeen n (now (rows .entry)) (now (out .entry)) (readFigures 0 r (now (count .exit)) 0) ⌝ }
+{
+    let answer = self_inverse::clifford_to_transvections_self_inverse(n, rows, out);
+    let listed = self_inverse::figures_of(answer);
+    questions::tell(listed.number, listed.count, count);
+    listed.number
 }
 
 // The product of a list.

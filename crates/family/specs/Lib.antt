@@ -1,4 +1,3 @@
 pub mod Family
 pub mod Checks
-pub mod Sizes
 pub mod inner

@@ -3,6 +3,7 @@
 // The first d rows of `basis` are the members of a space, those of `forms` their form rows: each member times the core.
 use binar::Row;
 use binar::WIDTH;
+use symplectic::MOST_VECTORS;
 ghost use mathlib.Core.Path.{_≡_};
 ghost use mathlib.Core.Bool.{true, false};
 ghost use mathlib.Core.List.{List};
@@ -18,9 +19,6 @@ ghost use Rattle.triangular.specs.Spaces.{complement};
 ghost use Rattle.triangular.specs.Readings.{coreIn};
 ghost use Rattle.family.specs.Family.{symplecticSimplex, borderedFamily, coreFamily, vectors, vectorsOf};
 ghost use Rattle.family.specs.inner.Parts.{ifMade, besideRow, pickedOf, othersOf, pairRest, behind};
-
-// The most vectors of a family: one more than a row has columns.
-pub const MOST_VECTORS: usize = 65;
 
 // Whether a construction was made, or stuck where it found no partner or no member to drop.
 enum Construction {

@@ -39,7 +39,7 @@ listing-number r k e = sym (ap (λ (t : Figures). t .number) e) ∙ number-is r
 pub listing-passed : (r : Listing) (k q : ℕ) → figuresOf r ≡ nothingListed k → k ≡ q → Lists r → q ≡ 0
 listing-passed r k q e a l = sym a ∙ listing-number r k e ∙ l
 
-refuses : (r : Listing) (q : ℕ) → figuresOf r ≡ nothingListed q → Unlisted r → (k : ℕ) × (q ≡ suc k)
+pub refuses : (r : Listing) (q : ℕ) → figuresOf r ≡ nothingListed q → Unlisted r → (k : ℕ) × (q ≡ suc k)
 refuses r q e u = go q (listing-number r q e)
   where
     go : (p : ℕ) → p ≡ tagOf the-type r → (k : ℕ) × (p ≡ suc k)

@@ -10,6 +10,7 @@ use Rattle.blocks.specs.Words.{rowsOfWords, laid}
 use Rattle.symplectic.specs.Sizes.{maxQubits}
 use Rattle.symplectic.specs.Turns.{symplectic, product}
 use Rattle.symplectic.specs.Matches.{fitAll}
+use Rattle.symplectic.specs.NoneShorter.{NoneShorter}
 use Rattle.questions.specs.declared.Figures.{Figures}
 
 -- the figures of a call that has listed nothing: the number of the question that was answered no, or 0. Open to users
@@ -69,6 +70,10 @@ listQuestions n rows wanted lent = andThen (actionQuestions n rows) (ask (leb wa
 -- of a list call: the product of the vectors left is the whole lent action
 abbrev pub Replays : ℕ → List ℕ → List ℕ → Figures → Type 0
 Replays n rows left t = t .number ≡ 0 → product n (take (t .count) (rowsOfWords n left)) ≡ rowsOfWords n rows
+
+-- of a call whose list is as short as any: no list of vectors on 2n columns whose product is the action has fewer entries
+abbrev pub Shortest : ℕ → List ℕ → Figures → Type 0
+Shortest n rows t = t .number ≡ 0 → NoneShorter n (rowsOfWords n rows) (t .count)
 
 -- of a call that multiplies turns out: the words left are their whole product
 abbrev pub Rebuilds : ℕ → List ℕ → List ℕ → Figures → Type 0

@@ -6,6 +6,7 @@ mod score;
 use numbers::number_at;
 use questions::Figures;
 use records::same;
+use symplectic::MOST_VECTORS;
 ghost use mathlib.Core.Path.{_≡_};
 ghost use mathlib.Core.Bool.{true};
 ghost use Prim.Native.Nat.{_≤_, _<_};
@@ -25,6 +26,8 @@ const REBUILD: u64 = 2;
 const GATES: u64 = 3;
 
 const FIXED: u64 = 4;
+
+const SHORTER: u64 = 5;
 
 // A record's header: the call, the size of a word in bytes, how many words are lent and listed, and the answer. Of a choice between two
 // lists, rows and the first list are the lent words from the start, and the second list is the rest.
@@ -95,10 +98,31 @@ fn shorter_words(c: Case, lent: &[u64], out: &mut [u64]) -> Figures
     }
 }
 
+// The call for self-inverse actions. Which list it gives is its choice, so the list is multiplied out in its place, and the looks say how
+// many turns it has.
+fn self_inverse_words(n: u64, rows: &[u64], out: &mut [u64]) -> Figures {
+    let answer = self_inverse::clifford_to_transvections_self_inverse(n, rows, out);
+    let turns = self_inverse::figures_of(answer);
+    if turns.number != 0 {
+        return turns;
+    }
+    let mut list = [0u64; MOST_VECTORS];
+    lay(out, &mut list);
+    let listed = blocks::lesser(turns.count as usize, MOST_VECTORS);
+    let lent = blocks::lesser(rows.len(), out.len());
+    let product = rebuild::rebuild(n, &list[..listed], &mut out[..lent]);
+    let f = rebuild::figures_of(product);
+    Figures {
+        number: f.number,
+        count: f.count,
+        looks: turns.count,
+    }
+}
+
 fn known(kind: u64) -> bool
-    ensures { λ r. ⌜ (r ≡ true → kind < 6) ⌝ }
+    ensures { λ r. ⌜ (r ≡ true → kind < 7) ⌝ }
 {
-    kind < 6
+    kind < 7
 }
 
 // The call of a known kind.
@@ -124,7 +148,10 @@ fn call(c: Case, lent: &[u64], out: &mut [u64]) -> Figures
         let a = fixed_space::clifford_fixed_space(c.n, lent, out);
         return questions::figures_of(a);
     }
-    shorter_words(c, lent, out)
+    if c.kind == SHORTER {
+        return shorter_words(c, lent, out);
+    }
+    self_inverse_words(c.n, lent, out)
 }
 
 // ---- the records

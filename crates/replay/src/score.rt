@@ -13,8 +13,8 @@ ghost use Rattle.replay.specs.inner.Records.{HasRoom};
 
 // How many records of each kind agree and differ, and how many were not read.
 struct Score {
-    agree: [u64; 6],
-    differ: [u64; 6],
+    agree: [u64; 7],
+    differ: [u64; 7],
     unread: u64,
 }
 
@@ -24,8 +24,8 @@ struct Step {
     ended: bool,
 }
 
-fn one_more(counts: [u64; 6], k: usize) -> [u64; 6]
-    requires { ⌜ k < 6 ⌝ }
+fn one_more(counts: [u64; 7], k: usize) -> [u64; 7]
+    requires { ⌜ k < 7 ⌝ }
 {
     let mut c = counts;
     c[k] = more(c[k]);
@@ -116,6 +116,7 @@ fn print_score(t: Score) {
     print_kind(b"gates ", t.agree[3], t.differ[3]);
     print_kind(b"fixed ", t.agree[4], t.differ[4]);
     print_kind(b"shorter ", t.agree[5], t.differ[5]);
+    print_kind(b"self-inverse ", t.agree[6], t.differ[6]);
     if t.unread == 0 {
         return;
     }
@@ -127,8 +128,8 @@ fn print_score(t: Score) {
 // Takes at most 100,000 steps; input whose end is not met by then counts as one record that was not read.
 pub(crate) fn run() {
     let mut t = Score {
-        agree: [0; 6],
-        differ: [0; 6],
+        agree: [0; 7],
+        differ: [0; 7],
         unread: 0,
     };
     for _ in 0u64..100000 {

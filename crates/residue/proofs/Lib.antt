@@ -3,3 +3,4 @@ pub mod Core
 pub mod Loops
 pub mod Parts
 pub mod Coordinates
+pub mod Lengths

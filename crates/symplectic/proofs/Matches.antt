@@ -38,7 +38,7 @@ rows-equal (x ∷ xs) [] e = absurd (true≢false (sym e))
 rows-equal (x ∷ xs) (y ∷ ys) e =
     let k = and-eq-true-iff (eqb x y) (sameRows xs ys) .0 e in ap₂ _∷_ (eqb-true x y (k .0)) (rows-equal xs ys (k .1))
 
-rows-same : (xs : List ℕ) → sameRows xs xs ≡ true
+pub rows-same : (xs : List ℕ) → sameRows xs xs ≡ true
 rows-same [] = refl
 rows-same (x ∷ xs) = ap₂ _&&_ (eq-eqb x x refl) (rows-same xs)
 

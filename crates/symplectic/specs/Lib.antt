@@ -2,4 +2,5 @@ pub mod Turns
 pub mod Picks
 pub mod Sizes
 pub mod Matches
+pub mod NoneShorter
 pub mod inner

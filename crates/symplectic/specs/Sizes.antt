@@ -9,6 +9,10 @@ maxQubits = 32
 abbrev pub mostRows : ℕ
 mostRows = 64
 
+-- the most vectors of a list that is as short as any: one more than a row has columns
+abbrev pub mostVectors : ℕ
+mostVectors = 65
+
 -- a qubit count above the most counts as the most
 unfoldable pub capped : ℕ → ℕ
 capped n = min n maxQubits

@@ -12,10 +12,12 @@ ghost use Rattle.symplectic.specs.Turns.{followed as followedOf, symplec
 ghost use Rattle.symplectic.specs.inner.Vectors.{swapHalves, pairsBelow};
 ghost use Rattle.symplectic.specs.Sizes.{maxQubits, capped as cappedOf};
 
-// The most qubits of an action, and the most rows.
+// The most qubits of an action, the most rows, and the most vectors of a list that is as short as any: one more than a row has columns.
 pub const MAX_QUBITS: u64 = 32;
 
 pub const MOST_ROWS: usize = 64;
+
+pub const MOST_VECTORS: usize = 65;
 
 // n, and the most qubits where n is above that.
 pub fn capped(n: u64) -> usize

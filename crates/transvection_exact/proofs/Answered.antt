@@ -6,11 +6,11 @@ use Prim.Native.Nat.{ℕ, suc, _+_}
 use lib.ListN.{length}
 use Rattle.blocks.specs.Words.{rowsOfWords}
 use Rattle.questions.specs.declared.Figures.{Figures}
-use Rattle.questions.specs.Replies.{Reply, refused, listQuestions, Replays}
+use Rattle.questions.specs.Replies.{Reply, refused, listQuestions, Replays, Shortest}
 use Rattle.questions.proofs.Answered.{Meets, Holds, meets-refused, meets-answer}
 use Rattle.triangular.specs.Search.{Outcome, looksOf, budgeted}
 use Rattle.transvection_exact.specs.Minimal.{coreSearch, searchedReply, minimalReply}
-use Rattle.transvection_exact.specs.Answers.{Shortest, ExactFor, EveryLayer}
+use Rattle.transvection_exact.specs.Answers.{ExactFor, EveryLayer}
 use Rattle.transvection_exact.proofs.Shortest.{RightOf, core-right}
 use Rattle.transvection_exact.proofs.Replies.{replyFor, answered-product, answered-shortest, answered-looks, spent-only, spent-where, spent-looks, every-layer}
 

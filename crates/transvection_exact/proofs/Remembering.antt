@@ -17,7 +17,7 @@ use Rattle.linear.specs.Maps.{Form}
 use Rattle.linear.proofs.Instances.{𝕎}
 use Rattle.symplectic.specs.Sizes.{maxQubits}
 use Rattle.questions.specs.declared.Figures.{Figures}
-use Rattle.questions.specs.Replies.{Reply, refused, unlessRefused, actionQuestions, listQuestions, Replays}
+use Rattle.questions.specs.Replies.{Reply, refused, unlessRefused, actionQuestions, listQuestions, Replays, Shortest}
 use Rattle.questions.proofs.Questions.{list-refused}
 use Rattle.questions.proofs.Answered.{Meets, Holds}
 use Rattle.residue.specs.Residue.{basis, core, form}
@@ -33,7 +33,7 @@ use Rattle.memory.specs.Entries.{memoryWords, roomIn}
 use Rattle.memory.proofs.Kept.{room-none, words-none}
 use Rattle.family.specs.Family.{timesBasis}
 use Rattle.transvection_exact.specs.Minimal.{coreSearch, coreSearchWith, searchedReply, minimalReply, rememberingReply, unlessAsked, memoryLeft}
-use Rattle.transvection_exact.specs.Answers.{Shortest, ExactWith, AsWithout, EveryLayer, Plainly}
+use Rattle.transvection_exact.specs.Answers.{ExactWith, AsWithout, EveryLayer, Plainly}
 use Rattle.transvection_exact.proofs.Shortest.{RightOf, core-right}
 use Rattle.transvection_exact.proofs.Replies.{reply-refused}
 use Rattle.transvection_exact.proofs.Answered.{call-shortest, call-refused, call-searched}

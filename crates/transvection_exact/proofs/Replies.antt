@@ -17,7 +17,7 @@ use Rattle.questions.specs.Replies.{Reply, refused, unlessRefused, actionQuesti
 use Rattle.questions.proofs.Questions.{question-2, list-small, passed-size, passed-count, passed-rows, passed-symplectic, list-refused, list-or-short, list-known, reply-refused as refused-reply}
 use Rattle.triangular.specs.Search.{Outcome, looksOf, endedIf, budgeted}
 use Rattle.triangular.proofs.Budgets.{budgeted-is}
-use Rattle.transvection_exact.specs.NoneShorter.{NoneShorter}
+use Rattle.symplectic.specs.NoneShorter.{NoneShorter}
 use Rattle.transvection_exact.specs.Minimal.{coreSearch, listAfter, searchedReply, minimalReply}
 use Rattle.transvection_exact.specs.Answers.{RankOrOneMore, EveryLayer}
 use Rattle.transvection_exact.proofs.Shortest.{ShortestList, RightOf, core-right, shortest-after}

@@ -14,16 +14,17 @@ use Rattle.symplectic.specs.Turns.{product, symplectic}
 use Rattle.residue.specs.Residue.{basis, core}
 use Rattle.residue.proofs.Core.{basis-within}
 use Rattle.residue.proofs.Forms.{formOf}
+use Rattle.residue.proofs.Lengths.{none-below-rank}
 use Rattle.triangular.specs.Bases.{TriangularBasis}
 use Rattle.triangular.specs.Search.{Outcome, found, failed}
 use Rattle.triangular.proofs.Bases.{of-good, to-good}
 use Rattle.triangular.proofs.Complete.{Right, search-right}
 use Rattle.family.specs.Checks.{candidatePasses}
 use Rattle.family.proofs.Passes.{times-fits, bordered-list, always-passes}
-use Rattle.transvection_exact.specs.NoneShorter.{NoneShorter}
+use Rattle.symplectic.specs.NoneShorter.{NoneShorter}
 use Rattle.transvection_exact.specs.Minimal.{coreSearch, listAfter}
 use Rattle.transvection_exact.specs.Answers.{RankOrOneMore}
-use Rattle.transvection_exact.proofs.Lengths.{none-below-rank, basis-of-list, list-of-basis}
+use Rattle.transvection_exact.proofs.Lengths.{basis-of-list, list-of-basis}
 
 pub record ShortestList (n : ℕ) (F vs : List ℕ) : Type 0 where
   pub replays : product n vs ≡ F

@@ -13,7 +13,6 @@ use Rattle.triangular.specs.Bases.{TriangularBasis}
 use Rattle.triangular.specs.Search.{looksOf}
 use Rattle.transvection_exact.specs.declared.Minimal.{Minimal}
 use Rattle.transvection_exact.specs.declared.Minimal.the-variants.{Listed, TooManyQubits, WrongRowCount, RowTooWide, NotSymplectic, OutputTooShort, Spent}
-use Rattle.transvection_exact.specs.NoneShorter.{NoneShorter}
 use Rattle.memory.specs.Entries.{entrySize}
 use Rattle.transvection_exact.specs.Minimal.{coreSearch, coreSearchWith}
 
@@ -26,10 +25,6 @@ figuresOf RowTooWide = record { number = 3; count = 0; looks = 0 }
 figuresOf NotSymplectic = record { number = 4; count = 0; looks = 0 }
 figuresOf OutputTooShort = record { number = 5; count = 0; looks = 0 }
 figuresOf (Spent looks) = record { number = 6; count = 0; looks = looks }
-
--- where the call answers, no list of vectors on 2n columns whose product is the action has fewer entries. Open to users, as `Exact` is
-abbrev pub Shortest : ℕ → List ℕ → Figures → Type 0
-Shortest n rows t = t .number ≡ 0 → NoneShorter n (rowsOfWords n rows) (t .count)
 
 -- r, the count of V's rows and so the rank of I + F, where the core has a triangular basis, and r + 1 where it has none
 abbrev pub RankOrOneMore : ℕ → List ℕ → ℕ → Type 0

@@ -1,3 +1,2 @@
 pub mod Minimal
-pub mod NoneShorter
 pub mod Answers

@@ -1,22 +1,22 @@
 // The minimal list: as few turns as any list of the action has, laid into lent words.
 // In the source: transvection_exact.rs, `minimal_decomposition`, `clifford_to_transvections_minimal`.
 use actions::Action;
-use family::MOST_VECTORS;
 use questions::Figures;
 use questions::Question;
 use symplectic::MOST_ROWS;
+use symplectic::MOST_VECTORS;
 use triangular::Ending;
 ghost use mathlib.Core.Path.{_≡_};
 ghost use Rattle.blocks.specs.Matrices.{matmul};
 ghost use Rattle.blocks.specs.Words.{rowsIn, over};
 ghost use Rattle.actions.specs.Actions.{qubits, matrix};
-ghost use Rattle.questions.specs.Replies.{actionQuestions, listed, Replays};
+ghost use Rattle.questions.specs.Replies.{actionQuestions, listed, Replays, Shortest};
 ghost use Rattle.residue.specs.Residue.{basis as basisOf, core as coreOf};
 ghost use Rattle.triangular.specs.Search.{budgeted};
 ghost use Rattle.triangular.specs.Memory.{knownWithin};
 ghost use Rattle.memory.specs.Entries.{memoryWords, roomIn};
 ghost use Rattle.transvection_exact.specs.Minimal.{searchedReply, minimalReply, coreSearchWith, rememberingReply, memoryLeft};
-ghost use Rattle.transvection_exact.specs.Answers.{figuresOf, Shortest, Exact, ExactWith, AsWithout, EveryLayer, Plainly};
+ghost use Rattle.transvection_exact.specs.Answers.{figuresOf, Exact, ExactWith, AsWithout, EveryLayer, Plainly};
 
 // What the call answers: how many vectors it listed after how many looks, or the first question that is answered no.
 pub enum Minimal {

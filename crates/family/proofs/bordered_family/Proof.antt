@@ -20,7 +20,7 @@ use Rattle.triangular.proofs.Cores.{core-in}
 use Rattle.family.specs.declared.Construction.{Construction}
 use Rattle.family.specs.declared.Construction.the-variants.{Made, Stuck}
 use Rattle.family.specs.Family.{borderedFamily, coreFamily, vectors, vectorsOf}
-use Rattle.family.specs.Sizes.{mostVectors}
+use Rattle.symplectic.specs.Sizes.{mostVectors}
 use Rattle.family.specs.inner.Parts.{ifMade}
 use Rattle.family.proofs.Behind.{over-all}
 use native.Mathlib.Omega.{arith}

@@ -19,7 +19,7 @@ use Rattle.symplectic.proofs.Work.{room-in}
 use Rattle.residue.proofs.Core.{core-length, core-within}
 use Rattle.triangular.specs.declared.Ending.the-variants.{Found, Failed}
 use Rattle.family.specs.Family.{coreFamily, vectorsOf}
-use Rattle.family.specs.Sizes.{mostVectors}
+use Rattle.symplectic.specs.Sizes.{mostVectors}
 use Rattle.family.proofs.Passes.{vectors-size}
 use Rattle.questions.proofs.Questions.{passed-rows, passed-symplectic}
 use Rattle.residue.specs.Residue.{core}

@@ -1,0 +1,11 @@
+pub mod Outers
+pub mod Peeling
+pub mod Pairs
+pub mod Turns
+pub mod Lists
+pub mod Diagonals
+pub mod Adjoint
+pub mod Commutes
+pub mod Counts
+pub mod Squares
+pub mod Replied

@@ -1,0 +1,4 @@
+pub mod SelfInverse
+pub mod Answers
+pub mod Promises
+pub mod inner
