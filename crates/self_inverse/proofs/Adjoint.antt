@@ -19,7 +19,7 @@ use Rattle.symplectic.proofs.Products.{times-of-units}
 use Rattle.symplectic.proofs.Layers.{added, added-is, added-sum, added-lt, added-over, keeps-times, kept-pairs}
 use Rattle.residue.specs.Residue.{residue}
 use Rattle.residue.proofs.Core.{residue-times, residue-length, residue-lt}
-use Rattle.self_inverse.specs.inner.Peels.{Rest, Level}
+use Rattle.self_inverse.specs.inner.Peels.{SymmetricSquare, Level}
 use Rattle.self_inverse.specs.Promises.{Isotropic}
 use Rattle.self_inverse.proofs.Peeling.{dot-past}
 
@@ -91,7 +91,7 @@ module _ (n : ℕ) (F : List ℕ) (size : length F ≡ n + n) where
       residue-dot : (x y : ℕ) → dot (times x (residue n F)) y ≡ pairing n (added n F (swapHalves n x)) (swapHalves n y)
       residue-dot x y = ap (λ t. dot t y) (residue-times n F size x) ∙ dot-pairing n (added n F (swapHalves n x)) y (added-lt n F bounded (swapHalves n x))
 
-      pub residue-rest : Rest (residue n F)
+      pub residue-rest : SymmetricSquare (residue n F)
       residue-rest = record {
         symmetric = λ x y. residue-dot x y ∙ added-adjoint (swapHalves n x) (swapHalves n y) ∙ pairing-comm n (swapHalves n x) (added n F (swapHalves n y))
             ∙ sym (dot-comm x (times y (residue n F)) ∙ residue-dot y x);

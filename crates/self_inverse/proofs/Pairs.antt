@@ -19,7 +19,7 @@ use Rattle.linear.proofs.Instances.{𝕎}
 use Rattle.linear.proofs.Rows.{times-in}
 use Rattle.blocks.proofs.All.{All·map}
 use Rattle.reduction.specs.Columns.{rank}
-use Rattle.self_inverse.specs.inner.Peels.{plusOuter, outers, three, withPair, Rest, Level, Image, Split, Grown, Paired}
+use Rattle.self_inverse.specs.inner.Peels.{plusOuter, outers, three, withPair, SymmetricSquare, Level, Image, Split, Grown, Paired}
 use Rattle.self_inverse.proofs.Outers.{outer-length, outer-lt, outer-times, across, outers-pair, pair-length}
 use Rattle.self_inverse.proofs.Peeling.{rank-drop, rows-inside, no-dot, not-spanned, dot-select, select-comm, times-select, image-sum}
 
@@ -35,7 +35,7 @@ image-pair M f s a b (v ∷ w ∷ vs) h = (h .0, image-pair M f s a b (w ∷ vs)
 
 -- ---- the two rows
 
-module _ (R : List ℕ) (rest : Rest R) (level : Level R) (e g : ℕ) (one : dot (times e R) g ≡ true) where
+module _ (R : List ℕ) (rest : SymmetricSquare R) (level : Level R) (e g : ℕ) (one : dot (times e R) g ≡ true) where
   abbrev f : ℕ
   f = times e R
 
@@ -73,7 +73,7 @@ module _ (R : List ℕ) (rest : Rest R) (level : Level R) (e g : ℕ) (one : dot
   paired-length : length R′ ≡ length R
   paired-length = outer-length s f (plusOuter f s R) ∙ outer-length f s R
 
-  paired-rest : Rest R′
+  paired-rest : SymmetricSquare R′
   paired-rest = record {
     symmetric = symmetric′;
     bounded = subst (λ m. All (λ x. x < 2 ^ m) R′) (sym paired-length)
@@ -169,7 +169,7 @@ module _ (R : List ℕ) (rest : Rest R) (level : Level R) (e g : ℕ) (one : dot
   }
 
 -- a row that is zero
-pub unpaired : (i : ℕ) (R vs : List ℕ) → Rest R → Level R → times (2 ^ i) R ≡ 0 → Paired i R R vs vs
+pub unpaired : (i : ℕ) (R vs : List ℕ) → SymmetricSquare R → Level R → times (2 ^ i) R ≡ 0 → Paired i R R vs vs
 unpaired i R vs rest level z =
     record { square = refl; rest = rest; level = level; gone = z; zero = λ x h. h; split = λ M t. t; more = le-refl (length vs); grown = inl (le-refl (length vs + rank (length R) R)) }
 

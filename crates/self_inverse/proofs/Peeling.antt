@@ -27,7 +27,7 @@ use Rattle.reduction.specs.Columns.{rank}
 use Rattle.reduction.specs.inner.Plain.{reduced}
 use Rattle.reduction.proofs.Reduced.{reduced-indep, reduced-out, basis-in}
 use Rattle.reduction.proofs.Transform.{rank-plain}
-use Rattle.self_inverse.specs.inner.Peels.{plusOuter, outers, Rest, Level, OnDiagonal, Image, Split}
+use Rattle.self_inverse.specs.inner.Peels.{plusOuter, outers, SymmetricSquare, Level, OnDiagonal, Image, Split}
 use Rattle.self_inverse.proofs.Outers.{outer-length, outer-lt, outer-times, outers-snoc}
 
 -- ---- ranks
@@ -89,7 +89,7 @@ dot-past m d h l =
 abbrev pub Diagonal : List ℕ → ℕ → Type 0
 Diagonal R d = (x : ℕ) → dot (times x R) x ≡ dot x d
 
-module _ (R : List ℕ) (rest : Rest R) where
+module _ (R : List ℕ) (rest : SymmetricSquare R) where
   -- the form of a vector with itself is additive
   self-sum : Additive 𝕎 𝔹 (λ x. dot (times x R) x)
   self-sum x y =
@@ -134,7 +134,7 @@ module _ (R : List ℕ) (rest : Rest R) where
 
 -- ---- one row
 
-module _ (R : List ℕ) (rest : Rest R) (e : ℕ) (one : dot (times e R) e ≡ true) where
+module _ (R : List ℕ) (rest : SymmetricSquare R) (e : ℕ) (one : dot (times e R) e ≡ true) where
   abbrev v : ℕ
   v = times e R
 
@@ -156,7 +156,7 @@ module _ (R : List ℕ) (rest : Rest R) (e : ℕ) (one : dot (times e R) e ≡ t
       ∙ ap₂ _⊻_ (rest .symmetric x y ∙ dot-comm x (times y R)) (select-comm (dot x v) (dot v y) ∙ ap₂ (select false) (dot-comm v y) (dot-comm x v))
       ∙ sym (dot-comm x (times y R′) ∙ dot-after y x)
 
-  pub peeled-rest : Rest R′
+  pub peeled-rest : SymmetricSquare R′
   peeled-rest = record {
     symmetric = symmetric′;
     bounded = subst (λ m. All (λ x. x < 2 ^ m) R′) (sym (outer-length v v R)) (outer-lt (length R) v v v-lt R (rest .bounded));

@@ -24,7 +24,7 @@ use Rattle.linear.proofs.Instances.{𝕎}
 use Rattle.linear.proofs.Rows.{zero-by-units}
 use Rattle.reduction.specs.Columns.{rank}
 use Rattle.reduction.proofs.Transform.{rank-length}
-use Rattle.self_inverse.specs.inner.Peels.{plusOuter, outers, withPair, Rest, Level, OnDiagonal, Split, Sums, Grown, Paired, Decomposed}
+use Rattle.self_inverse.specs.inner.Peels.{plusOuter, outers, withPair, SymmetricSquare, Level, OnDiagonal, Split, Sums, Grown, Paired, Decomposed}
 use Rattle.self_inverse.proofs.Outers.{outer-length}
 use Rattle.self_inverse.proofs.Peeling.{Diagonal, diagonal-is, level-of, peeled-rest, peeled-split, peeled-rank, peeled-diagonal}
 use Rattle.self_inverse.proofs.Pairs.{paired, grown-on, grown-end, grown-room}
@@ -38,13 +38,13 @@ one-there m x w l e = lowest-one x (pos-of-ne-zero (eqb-false x 0 e)) (omega (ar
 -- of M the vectors vs are taken, and R is left, with the diagonal d
 pub record Peeled (M R vs : List ℕ) (d : ℕ) : Type 0 where
   pub square : length R ≡ length M
-  pub rest : Rest R
+  pub rest : SymmetricSquare R
   pub diagonal : Diagonal R d
   pub fits : d < 2 ^ length M
   pub split : Split M vs R
   pub short : length vs + rank (length M) R ≤ rank (length M) M
 
-pub peel-begins : (M : List ℕ) (d : ℕ) → Rest M → OnDiagonal M d → Peeled M M [] d
+pub peel-begins : (M : List ℕ) (d : ℕ) → SymmetricSquare M → OnDiagonal M d → Peeled M M [] d
 peel-begins M d rest on = record {
   square = refl;
   rest = rest;
@@ -80,7 +80,7 @@ module _ (M R vs : List ℕ) (d : ℕ) (p : Peeled M R vs d) where
     pub peel-turn : Peeled M (plusOuter v v R) (vs ++ (v ∷ [])) (d ⊕ v)
     peel-turn = record {
       square = outer-length v v R ∙ p .square;
-      rest = subst (λ w. Rest (plusOuter w w R)) row-is (peeled-rest R (p .rest) (2 ^ i) one);
+      rest = subst (λ w. SymmetricSquare (plusOuter w w R)) row-is (peeled-rest R (p .rest) (2 ^ i) one);
       diagonal = subst (λ w. Diagonal (plusOuter w w R) (d ⊕ w)) row-is (peeled-diagonal R (p .rest) (2 ^ i) one d (p .diagonal));
       fits = sum-lt (length M) d v (p .fits) (subst₂ (λ (m w : ℕ). w < 2 ^ m) (p .square) row-is (times-lt (length R) R (p .rest .bounded) (2 ^ i)));
       split = subst (λ w. Split M (vs ++ (w ∷ [])) (plusOuter w w R)) row-is (peeled-split R (p .rest) (2 ^ i) one M vs (p .split));
@@ -89,7 +89,7 @@ module _ (M R vs : List ℕ) (d : ℕ) (p : Peeled M R vs d) where
 
 -- ---- pairs
 
-module _ (R : List ℕ) (rest : Rest R) (level : Level R) (small : length R ≤ width) (i f s : ℕ) (first : f ≡ getD R i 0) (second : s ≡ getD R (lowest f) 0) where
+module _ (R : List ℕ) (rest : SymmetricSquare R) (level : Level R) (small : length R ≤ width) (i f s : ℕ) (first : f ≡ getD R i 0) (second : s ≡ getD R (lowest f) 0) where
   pub pair-turn : eqb f 0 ≡ false → (vs : List ℕ) → Paired i R (plusOuter s f (plusOuter f s R)) vs (withPair f s vs)
   pair-turn other vs =
       let e : times (2 ^ i) R ≡ f = times-unit i R ∙ sym first in
@@ -122,14 +122,14 @@ sums-of M vs R z s = record { sums = λ x. s .sums x ∙ ap (λ t. outers vs x �
 -- from the vectors us and R₀ to vs and R, of which the first i rows are zero
 pub record PairedOff (R₀ R us vs : List ℕ) (i : ℕ) : Type 0 where
   pub square : length R ≡ length R₀
-  pub rest : Rest R
+  pub rest : SymmetricSquare R
   pub level : Level R
   pub zeros : (j : ℕ) → j < i → times (2 ^ j) R ≡ 0
   pub split : (M : List ℕ) → Split M us R₀ → Split M vs R
   pub more : length us ≤ length vs
   pub grown : Grown (length us) (rank (length R₀) R₀) (length vs) (rank (length R₀) R)
 
-pub pairs-begin : (R us : List ℕ) → Rest R → Level R → PairedOff R R us us 0
+pub pairs-begin : (R us : List ℕ) → SymmetricSquare R → Level R → PairedOff R R us us 0
 pairs-begin R us rest level = record {
   square = refl;
   rest = rest;

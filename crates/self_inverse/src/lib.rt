@@ -26,7 +26,7 @@ ghost use Rattle.residue.specs.Residue.{residue as residueOf};
 ghost use Rattle.self_inverse.specs.SelfInverse.{selfInverse, selfInverseReply};
 ghost use Rattle.self_inverse.specs.Answers.{figuresOf};
 ghost use Rattle.self_inverse.specs.Promises.{chosen, Commuting, Counted, Seventeen};
-ghost use Rattle.self_inverse.specs.inner.Peels.{plusOuter, three, withPair, Rest, Level, OnDiagonal, Split, Sums, Grown, Paired, Decomposed};
+ghost use Rattle.self_inverse.specs.inner.Peels.{plusOuter, three, withPair, SymmetricSquare, Level, OnDiagonal, Split, Sums, Grown, Paired, Decomposed};
 
 // What the call answers: what a call that lists without a search does, or that the action is not its own inverse.
 pub enum SelfInverse {
@@ -94,9 +94,9 @@ fn diagonal(rows: &[u64]) -> Row
 
 // Peels rows off a symmetric matrix into a list while its diagonal has a one. Answers how many. Each changes the diagonal by itself.
 fn peel(rows: &mut [u64], list: &mut [u64]) -> usize
-    requires { ⌜ Rest (rowsIn (now rows)) × (length (rowsIn (now rows)) ≤ width) × (length (rowsIn (now rows)) < length (rowsIn (now list))) ⌝ }
+    requires { ⌜ SymmetricSquare (rowsIn (now rows)) × (length (rowsIn (now rows)) ≤ width) × (length (rowsIn (now rows)) < length (rowsIn (now list))) ⌝ }
     ensures square { λ r. ⌜ length (rowsIn (now (rows .exit))) ≡ length (rowsIn (now (rows .entry))) ⌝ }
-    ensures left { λ r. ⌜ Rest (rowsIn (now (rows .exit))) × Level (rowsIn (now (rows .exit))) ⌝ }
+    ensures left { λ r. ⌜ SymmetricSquare (rowsIn (now (rows .exit))) × Level (rowsIn (now (rows .exit))) ⌝ }
     ensures split { λ r. ⌜ Split (rowsIn (now (rows .entry))) (take r (rowsIn (now (list .exit)))) (rowsIn (now (rows .exit))) ⌝ }
     ensures short { λ r. ⌜ r + rank (length (rowsIn (now (rows .entry)))) (rowsIn (now (rows .exit)))
         ≤ rank (length (rowsIn (now (rows .entry)))) (rowsIn (now (rows .entry))) ⌝ }
@@ -144,7 +144,7 @@ fn put_pair(list: &mut [u64], k: usize, f: Row, s: Row) -> usize
 // Where row i of a symmetric matrix with zeros on its diagonal is not zero, peels it off with the row of its first one, and puts the pair
 // into a list of which the first k vectors stand. Answers how many there are then.
 fn peel_pair(rows: &mut [u64], list: &mut [u64], k: usize, i: usize) -> usize
-    requires { ⌜ Rest (rowsIn (now rows)) × Level (rowsIn (now rows)) × (length (rowsIn (now rows)) ≤ width) × (length (rowsIn (now rows)) < length (rowsIn (now list)))
+    requires { ⌜ SymmetricSquare (rowsIn (now rows)) × Level (rowsIn (now rows)) × (length (rowsIn (now rows)) ≤ width) × (length (rowsIn (now rows)) < length (rowsIn (now list)))
         × (k + rank (length (rowsIn (now rows))) (rowsIn (now rows)) ≤ suc (length (rowsIn (now rows)))) ⌝ }
     ensures paired { λ r. ⌜ Paired i (rowsIn (now (rows .entry))) (rowsIn (now (rows .exit))) (take k (rowsIn (now (list .entry)))) (take r (rowsIn (now (list .exit)))) ⌝ }
     ensures room { λ r. ⌜ (r ≤ length (rowsIn (now (list .exit)))) × (length (rowsIn (now (list .exit))) ≡ length (rowsIn (now (list .entry)))) ⌝ }
@@ -162,7 +162,7 @@ fn peel_pair(rows: &mut [u64], list: &mut [u64], k: usize, i: usize) -> usize
 // Peels pairs of rows off a symmetric matrix with zeros on its diagonal, until it is zero, and puts them into a list of which the first k
 // vectors stand. Answers how many there are then.
 fn pair_off(rows: &mut [u64], list: &mut [u64], k: usize) -> usize
-    requires { ⌜ Rest (rowsIn (now rows)) × Level (rowsIn (now rows)) × (length (rowsIn (now rows)) ≤ width) × (length (rowsIn (now rows)) < length (rowsIn (now list)))
+    requires { ⌜ SymmetricSquare (rowsIn (now rows)) × Level (rowsIn (now rows)) × (length (rowsIn (now rows)) ≤ width) × (length (rowsIn (now rows)) < length (rowsIn (now list)))
         × (k + rank (length (rowsIn (now rows))) (rowsIn (now rows)) ≤ length (rowsIn (now rows))) ⌝ }
     ensures sums { λ r. ⌜ ((M : List ℕ) → Split M (take k (rowsIn (now (list .entry)))) (rowsIn (now (rows .entry))) → Sums M (take r (rowsIn (now (list .exit))))) ⌝ }
     ensures short { λ r. ⌜ Grown k (rank (length (rowsIn (now (rows .entry)))) (rowsIn (now (rows .entry)))) r 0 × (r ≤ length (rowsIn (now (list .exit)))) ⌝ }
@@ -177,7 +177,7 @@ fn pair_off(rows: &mut [u64], list: &mut [u64], k: usize) -> usize
 
 // Takes a symmetric matrix apart: puts vectors into a list that add up to it, each as a column times itself as a row. Answers how many.
 fn decompose(rows: &mut [u64], list: &mut [u64]) -> usize
-    requires { ⌜ Rest (rowsIn (now rows)) × (length (rowsIn (now rows)) ≤ width) × (length (rowsIn (now rows)) < length (rowsIn (now list))) ⌝ }
+    requires { ⌜ SymmetricSquare (rowsIn (now rows)) × (length (rowsIn (now rows)) ≤ width) × (length (rowsIn (now rows)) < length (rowsIn (now list))) ⌝ }
     ensures { λ r. ⌜ Decomposed (rowsIn (now (rows .entry))) (take r (rowsIn (now (list .exit)))) × (r ≤ length (rowsIn (now (list .exit)))) ⌝ }
 {
     let count = peel(rows, list);
@@ -186,7 +186,7 @@ fn decompose(rows: &mut [u64], list: &mut [u64]) -> usize
 
 // Puts the vectors of commuting turns that play a self-inverse action into a list. Answers how many.
 fn commuting_turns(a: Action, list: &mut [u64]) -> usize
-    requires { ⌜ Rest (residueOf (qubits a) (matrix a)) × (length (residueOf (qubits a) (matrix a)) < length (rowsIn (now list))) ⌝ }
+    requires { ⌜ SymmetricSquare (residueOf (qubits a) (matrix a)) × (length (residueOf (qubits a) (matrix a)) < length (rowsIn (now list))) ⌝ }
     ensures { λ r. ⌜ Decomposed (residueOf (qubits a) (matrix a)) (take r (rowsIn (now (list .exit)))) × (r ≤ length (rowsIn (now (list .exit)))) ⌝ }
 {
     let mut rows = [0u64; MOST_ROWS];

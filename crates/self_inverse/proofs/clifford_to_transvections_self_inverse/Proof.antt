@@ -23,7 +23,7 @@ use Rattle.questions.proofs.Listings.{listing-passed, refuses}
 use Rattle.residue.specs.Residue.{residue}
 use Rattle.residue.proofs.Core.{residue-length}
 use Rattle.self_inverse.specs.SelfInverse.{selfInverse}
-use Rattle.self_inverse.specs.inner.Peels.{Rest, Decomposed}
+use Rattle.self_inverse.specs.inner.Peels.{SymmetricSquare, Decomposed}
 use Rattle.self_inverse.proofs.Squares.{self-inverse-is}
 use Rattle.self_inverse.proofs.Adjoint.{residue-rest}
 use Rattle.self_inverse.proofs.Counts.{commuting-list}
@@ -124,7 +124,7 @@ commuting-turns-requires c κs =
     let p = passed t in
     let size = passed-count n F p in
     let long = residue-length n F size in
-    subst₂ (λ (m : ℕ) (G : List ℕ). Rest (residue m G) × (length (residue m G) < length (rowsIn (replicate mostVectors 0)))) (sym (e .0)) (sym (e .1))
+    subst₂ (λ (m : ℕ) (G : List ℕ). SymmetricSquare (residue m G) × (length (residue m G) < length (rowsIn (replicate mostVectors 0)))) (sym (e .0)) (sym (e .1))
     (residue-rest n F size (passed-rows n F p) (passed-symplectic n F p) (self-inverse-is n F (inverse (c .before))), omega (arith, long, few t, room-in mostVectors mostVectors (le-refl mostVectors)))
 
 slice-aggregate-start : tie.Need-slice-aggregate-start

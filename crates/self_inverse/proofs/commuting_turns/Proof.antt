@@ -14,7 +14,7 @@ use Rattle.actions.proofs.Arrays.{qubits-le, qubits-capped, matrix-length}
 use Rattle.reduction.proofs.Words.{lent-room, lent-count, lent-rows, left-room, left-count}
 use Rattle.residue.specs.Residue.{residue}
 use Rattle.residue.proofs.Core.{residue-length}
-use Rattle.self_inverse.specs.inner.Peels.{Rest, Decomposed}
+use Rattle.self_inverse.specs.inner.Peels.{SymmetricSquare, Decomposed}
 use native.Mathlib.Omega.{arith}
 use borrow.Author.Needs.{needs}
 use Rattle.self_inverse.proofs.commuting_turns.Statement.{statement}
@@ -95,7 +95,7 @@ decompose-requires c κs =
     let here = c .before .before .before in
     let begun = here .before .before .before .before .before .before in
     let e = is here in
-    (subst Rest (sym e) (begun .pre .0), omega (arith, ap length e, size begun, qubits-le (begun .args .a)), omega (arith, ap length e, begun .pre .1))
+    (subst SymmetricSquare (sym e) (begun .pre .0), omega (arith, ap length e, size begun, qubits-le (begun .args .a)), omega (arith, ap length e, begun .pre .1))
 
 same-length : tie.Need-same-length
 same-length c = search needs

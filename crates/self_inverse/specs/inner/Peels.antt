@@ -20,7 +20,7 @@ abbrev pub outers : List ℕ → ℕ → ℕ
 outers [] x = 0
 outers (v ∷ vs) x = select 0 (dot x v) v ⊕ outers vs x
 
--- three vectors for p and a pair f, s; as p alone they give p's part, and that of f and s crosswise
+-- three vectors in the place of p: together they give what p gives, and f and s crosswise
 abbrev pub three : ℕ → ℕ → ℕ → List ℕ
 three f s p = (p ⊕ f) ∷ (p ⊕ s) ∷ ((p ⊕ f) ⊕ s) ∷ []
 
@@ -33,11 +33,11 @@ withPair f s (v ∷ w ∷ vs) = v ∷ withPair f s (w ∷ vs)
 -- ---- what is left of a matrix
 
 -- a symmetric square matrix
-pub record Rest (R : List ℕ) : Type 0 where
+pub record SymmetricSquare (R : List ℕ) : Type 0 where
   pub symmetric : (x y : ℕ) → dot (times x R) y ≡ dot x (times y R)
   pub bounded : All (λ v. v < 2 ^ length R) R
 
--- with zeros on the diagonal
+-- each vector times it has no dot with itself: of a symmetric matrix, the diagonal is zero
 abbrev pub Level : List ℕ → Type 0
 Level R = (x : ℕ) → dot (times x R) x ≡ false
 
@@ -71,7 +71,7 @@ Grown k left count after = (count + after ≤ k + left) ⊎ ((k ≡ 0) × ((0 < 
 -- the vectors and what is left, before and after a pair is peeled that clears row i
 pub record Paired (i : ℕ) (R R′ vs vs′ : List ℕ) : Type 0 where
   pub square : length R′ ≡ length R
-  pub rest : Rest R′
+  pub rest : SymmetricSquare R′
   pub level : Level R′
   pub gone : times (2 ^ i) R′ ≡ 0
   pub zero : (x : ℕ) → times x R ≡ 0 → times x R′ ≡ 0
