@@ -12,7 +12,7 @@ use Rattle.blocks.proofs.Values.{laid-front}
 use Rattle.symplectic.specs.Turns.{product}
 use Rattle.questions.specs.declared.Figures.{Figures}
 use Rattle.questions.specs.Replies.{Reply, nothingListed, listed, ask, unlessRefused, actionQuestions, listQuestions, Replays, Shortest}
-use Rattle.questions.proofs.Questions.{passed-size, then-passed, then-refused, then-known, ask-passed, list-passed, list-short, list-refused, list-small, reply-passed, reply-refused}
+use Rattle.questions.proofs.Questions.{passed-size, then-passed, then-refused, list-passed, list-short, list-refused, list-small, reply-passed, reply-refused}
 use Rattle.questions.proofs.Answered.{rows-wide}
 use Rattle.self_inverse.specs.SelfInverse.{selfInverse, selfInverseQuestions, selfInverseReply}
 use Rattle.self_inverse.specs.Promises.{chosen, AllCommute, Commuting, RankOrNext, Counted, OtherInverse, Seventeen}
@@ -39,12 +39,12 @@ module _ (n : ℕ) (rows out : List ℕ) where
 
   -- ---- number 17
 
-  to-bool : (b : Bool) → (b ≡ true → ⊥) → b ≡ false
-  to-bool true h = absurd (h refl)
-  to-bool false h = refl
+  not-so : (b : Bool) → (b ≡ true → ⊥) → b ≡ false
+  not-so true h = absurd (h refl)
+  not-so false h = refl
 
   not-inverse : (matmul F F ≡ units (n + n) → ⊥) → selfInverse n F ≡ false
-  not-inverse h = to-bool (selfInverse n F) (λ e. h (self-inverse-is n F e))
+  not-inverse h = not-so (selfInverse n F) (λ e. h (self-inverse-is n F e))
 
   early-questions : (k : ℕ) → first ≡ suc k → questions ≡ suc k
   unfolding selfInverseQuestions
@@ -53,12 +53,6 @@ module _ (n : ℕ) (rows out : List ℕ) where
   late-questions : (b : Bool) → first ≡ 0 → selfInverse n F ≡ b → questions ≡ ask b 17 0
   unfolding selfInverseQuestions
   late-questions b e s = then-passed first (ask (selfInverse n F) 17 0) e ∙ ap (λ t. ask t 17 0) s
-
-  passed-known : questions ≡ 0 → (first ≡ 0) × (selfInverse n F ≡ true)
-  unfolding selfInverseQuestions
-  passed-known e =
-      let k = then-known first (ask (selfInverse n F) 17 0) e in
-      (k .0, ask-passed (selfInverse n F) 16 0 (k .1) .0)
 
   other-of : (q f : ℕ) (b : Bool) → first ≡ f → selfInverse n F ≡ b → questions ≡ q → q ≡ 17 → OtherInverse n rows out
   other-of q (suc k) b e s a z = absurd (omega (arith, early-questions k e, list-small n F (n + n + 1) (length out)))
