@@ -26,6 +26,7 @@ BY_HAND = {
     "selfInverse": "is_self_inverse",
     "All·getD": "All-get_or",
 }
+USE = re.compile(r"(?m)^ *(?:pub |ghost )?use ([^\s;{]+?)\.?\{([^}]*)\}")
 ALIAS = re.compile(r"[\w◌⊕⊻'·-]+ as ([^\s,};]+)")
 
 
@@ -36,6 +37,12 @@ def respelled(name):
         return head + "-" + respelled(rest) if dot else name
     words = re.sub(r"(?<=[a-z0-9])[A-Z]", lambda m: "_" + m[0].lower(), name.replace("′", "'"))
     return re.sub(r"(?<=[\w'])[-·](?=\w)", "_", words)
+
+
+def own_path(path):
+    """Whether a path of a `use` line leads into this repository's crates."""
+    steps = path.split(".")
+    return steps[0] == "Rattle" and steps[1:2] and os.path.isdir(os.path.join(ROOT, steps[1]))
 
 
 def files():
@@ -54,7 +61,8 @@ def main():
         found = DECLARED.findall(text) if path.endswith(".antt") else []
         declared.update(found, ALIAS.findall(text))
     of_source = {it for path, text in texts.items() if path.endswith(".rt") for it in re.findall(r"\b(?:fn|const|static|struct|enum|mod) (\w+)", text)}
-    table = {it: respelled(it) for it in declared - of_source if respelled(it) != it and re.match(r"[^\W\d]", it)}
+    of_library = {name.split(" as ")[0].strip() for text in texts.values() for path, names in USE.findall(text) if not own_path(path) for name in names.split(",")}
+    table = {it: respelled(it) for it in declared - of_source - of_library if respelled(it) != it and re.match(r"[^\W\d]", it)}
     table.update(BY_HAND)
     # a definition that would have the name of a function of src/, and a law that would have the name of a definition
     for old, new in list(table.items()):

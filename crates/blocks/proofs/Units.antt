@@ -4,7 +4,7 @@ use mathlib.Core.Path.{◌≡◌, refl, sym, ap, ap₂, ◌∙◌, fun_ext}
 use mathlib.Core.Bool.{◌&&◌, and-false}
 use mathlib.Core.List.{List, [], ◌∷◌, ◌++◌, map, map-map, map-append}
 use Prim.Native.Nat.{ℕ, zero, suc, ◌+◌, ◌*◌, ◌/◌, ◌%◌, ◌^◌, ◌≤◌, ◌<◌}
-use native.Mathlib.Nat.{pow-suc, mul-one, mul_assoc, mul-div_cancel, mod-lt, zero_add, suc-add, le_of_suc-le-suc, not-suc-le-zero}
+use native.Mathlib.Nat.{pow-suc, mul-one, mul_assoc, mul-div_cancel, mod-lt, zero-add, suc-add, le_of_suc-le-suc, not-suc-le-zero}
 use native.Mathlib.Numerals.{add-one}
 use native.Mathlib.Omega.{arith}
 use lib.Pow.{pow_pos, mod-pow-add}
@@ -49,7 +49,7 @@ by_one (x ∷ xs) = ap₂ ◌∷◌ (sym (mul-one x)) (by_one xs)
 
 pub units_split : (n k : ℕ) → units (n + k) ≡ units n ++ map (λ u. u * 2 ^ n) (units k)
 unfolding units
-units_split zero k = ap units (zero_add k) ∙ by_one (units k)
+units_split zero k = ap units (zero-add k) ∙ by_one (units k)
 units_split (suc n) k =
     ap units (suc-add n k)
     ∙ ap (λ l. 1 ∷ l) (ap (map (λ u. u * 2)) (units_split n k) ∙ map-append (λ u. u * 2) (units n) (map (λ u. u * 2 ^ n) (units k))

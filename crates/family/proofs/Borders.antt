@@ -13,7 +13,7 @@ use Rattle.linear.specs.VectorSpace.{VectorSpace, scale}
 use Rattle.linear.specs.Span.{InSpan}
 use Rattle.linear.specs.Maps.{Additive, Pairing}
 use Rattle.linear.specs.Triangular.{Tri}
-use Rattle.linear.proofs.Sums.{add_zero, swap4}
+use Rattle.linear.proofs.Sums.{add-zero, swap4}
 use Rattle.linear.proofs.Exchange.{steinitz_span}
 use Rattle.linear.proofs.Instances.{𝔹, 𝕎, Prod}
 use Rattle.linear.proofs.Maps.{span_map, span_unmap, tri_indep}
@@ -40,8 +40,8 @@ unfolding wider
 in_wider bs p a h = (a, subst (InSpan (Prod 𝕎 𝔹) (map (λ b. (b, false)) bs)) (split a) (span_map 𝕎 (Prod 𝕎 𝔹) (λ b. (b, false)) (λ x y. refl) bs p h))
   where
     split : (a : Bool) → (p, false) ≡ (Prod 𝕎 𝔹).add (p, a) (scale (Prod 𝕎 𝔹) a (0, true))
-    split true = λ i. (sym (add_zero 𝕎 p) i, false)
-    split false = λ i. (sym (add_zero 𝕎 p) i, false)
+    split true = λ i. (sym (add-zero 𝕎 p) i, false)
+    split false = λ i. (sym (add-zero 𝕎 p) i, false)
 
 pub border_spans : (E : ℕ → ℕ → Bool) → ((p : ℕ) → Additive 𝕎 𝔹 (E p)) → (bs : List ℕ) (l : List (ℕ × Bool)) → Tri (bordered_form E) l
     → All (λ x. InSpan 𝕎 bs x.0) l → length l ≡ suc (length bs) → (p : ℕ) (a : Bool) → InSpan 𝕎 bs p → InSpan (Prod 𝕎 𝔹) l (p, a)
@@ -70,10 +70,10 @@ module _ (S : VectorSpace) (ω : Pairing S) (N : Residue S ω) (ψ : ℕ → S.C
   both x y = core_sum S ω N 𝕎 ψ ψ-add x.0 y.0 ∙ bits (E x.0 y.0) (E y.0 x.0) x.1 y.1
     where
       bits : (e f a b : Bool) → e ⊻ f ≡ (e ⊻ (a && b)) ⊻ (f ⊻ (b && a))
-      bits e f true true = sym (swap4 𝔹 e true f true ∙ add_zero 𝔹 (e ⊻ f))
-      bits e f true false = sym (ap₂ ◌⊻◌ (add_zero 𝔹 e) (add_zero 𝔹 f))
-      bits e f false true = sym (ap₂ ◌⊻◌ (add_zero 𝔹 e) (add_zero 𝔹 f))
-      bits e f false false = sym (ap₂ ◌⊻◌ (add_zero 𝔹 e) (add_zero 𝔹 f))
+      bits e f true true = sym (swap4 𝔹 e true f true ∙ add-zero 𝔹 (e ⊻ f))
+      bits e f true false = sym (ap₂ ◌⊻◌ (add-zero 𝔹 e) (add-zero 𝔹 f))
+      bits e f false true = sym (ap₂ ◌⊻◌ (add-zero 𝔹 e) (add-zero 𝔹 f))
+      bits e f false false = sym (ap₂ ◌⊻◌ (add-zero 𝔹 e) (add-zero 𝔹 f))
 
   pub border_product : (bs : List ℕ) → ((z : S.Car) → InSpan S (map (φ S ω N 𝕎 ψ ψ-add) bs) (N.of z)) → (l : List (ℕ × Bool))
       → Tri (bordered_form (core S ω N 𝕎 ψ ψ-add)) l → All (λ x. InSpan 𝕎 bs x.0) l → length l ≡ suc (length bs)
@@ -85,4 +85,4 @@ module _ (S : VectorSpace) (ω : Pairing S) (N : Residue S ω) (ψ : ℕ → S.C
       ∙ ap (λ t. S.add z t) q.2
     where
       at : (x : ℕ × Bool) (q : ℕ) → φ S ω N 𝕎 ψ ψ-add q ≡ N.of z → ω.at (image x) z ≡ bordered_form E x (q, false)
-      at x q e = same_form S ω N 𝕎 ψ ψ-add (ψ x.0) z (ψ q) (sym e) ∙ sym (ap (λ t. E x.0 q ⊻ t) (and-false x.1) ∙ add_zero 𝔹 (E x.0 q))
+      at x q e = same_form S ω N 𝕎 ψ ψ-add (ψ x.0) z (ψ q) (sym e) ∙ sym (ap (λ t. E x.0 q ⊻ t) (and-false x.1) ∙ add-zero 𝔹 (E x.0 q))

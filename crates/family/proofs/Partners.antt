@@ -14,7 +14,7 @@ use Rattle.blocks.proofs.All.{All-map, All-any, All-of_map, All-to_map}
 use Rattle.linear.specs.VectorSpace.{scale}
 use Rattle.linear.specs.Span.{InSpan, Indep}
 use Rattle.linear.specs.Maps.{Form}
-use Rattle.linear.proofs.Sums.{add_zero, eq_of_sum, scale_o}
+use Rattle.linear.proofs.Sums.{add-zero, eq_of_sum, scale_o}
 use Rattle.linear.proofs.Exchange.{span_add, span_scale, span_head, span_skip, span_members, span_trans, steinitz_indep}
 use Rattle.linear.proofs.Instances.{𝔹, 𝕎, scale_true}
 use Rattle.linear.proofs.Maps.{map_at, span_kernel}
@@ -99,13 +99,13 @@ module _ (F : Form 𝕎) where
     first_cleared y =
         at_cleared f y ∙ ap₂ (λ p q. (F.at f y ⊻ scale 𝔹 (F.at s y) p) ⊻ scale 𝔹 (F.at f y) q) (a f first_in) first_partner
         ∙ ap₂ (λ p q. (F.at f y ⊻ p) ⊻ q) (scale_o 𝔹 (F.at s y)) (scale_true (F.at f y))
-        ∙ ap (λ p. p ⊻ F.at f y) (add_zero 𝔹 (F.at f y)) ∙ bxor_self (F.at f y)
+        ∙ ap (λ p. p ⊻ F.at f y) (add-zero 𝔹 (F.at f y)) ∙ bxor_self (F.at f y)
 
     partner_cleared : (y : ℕ) → F.at s (clear y) ≡ false
     partner_cleared y =
         at_cleared s y ∙ ap₂ (λ p q. (F.at s y ⊻ scale 𝔹 (F.at s y) p) ⊻ scale 𝔹 (F.at f y) q) partner_first (a s partner_in)
         ∙ ap₂ (λ p q. (F.at s y ⊻ p) ⊻ q) (scale_true (F.at s y)) (scale_o 𝔹 (F.at f y))
-        ∙ add_zero 𝔹 (F.at s y ⊻ F.at s y) ∙ bxor_self (F.at s y)
+        ∙ add-zero 𝔹 (F.at s y ⊻ F.at s y) ∙ bxor_self (F.at s y)
 
     cleared_in : (y : ℕ) → InSpan 𝕎 (f ∷ bs) y → InSpan 𝕎 (f ∷ bs) (clear y)
     cleared_in y h =

@@ -8,7 +8,7 @@ use Rattle.binar.specs.Bits.{◌⊻◌, digit, bit}
 use Rattle.binar.proofs.Digits.{odd_digit, half_digit, odd_bit, bit_suc}
 use Rattle.binar.proofs.Sums.{bit_zero_is_odd}
 use Rattle.linear.proofs.Instances.{𝔹}
-use Rattle.linear.proofs.Sums.{add_zero}
+use Rattle.linear.proofs.Sums.{add-zero}
 use Rattle.symplectic.specs.Turns.{pairing}
 use Rattle.symplectic.specs.inner.Vectors.{pairing_from}
 use Rattle.symplectic.proofs.Qubits.{pairing_from_lem}
@@ -39,7 +39,7 @@ crosswise a b = (a.0 && b.1) ⊻ (a.1 && b.0)
 pub chart_bits : (a b : Letter) → chart a b ≡ crosswise (bits a) (bits b)
 chart_bits a b =
     pairing_from_lem 1 (vector a) (vector b)
-    ∙ add_zero 𝔹 ((bit 0 (vector a) && bit 1 (vector b)) ⊻ (bit 1 (vector a) && bit 0 (vector b)))
+    ∙ add-zero 𝔹 ((bit 0 (vector a) && bit 1 (vector b)) ⊻ (bit 1 (vector a) && bit 0 (vector b)))
     ∙ ap₂ ◌⊻◌ (ap₂ ◌&&◌ (vector_x a) (vector_z b)) (ap₂ ◌&&◌ (vector_z a) (vector_x b))
 
 -- ---- two vectors

@@ -3,7 +3,7 @@
 use mathlib.Core.Path.{◌≡◌, refl, sym, ap, ◌∙◌}
 use mathlib.Core.List.{map}
 use Prim.Native.Nat.{ℕ, zero, suc, ◌+◌, ◌/◌, ◌^◌, ◌<◌}
-use native.Mathlib.Nat.{le_of_suc-le-suc, not-suc-le-zero, zero_add, add_zero, add-suc, suc-add}
+use native.Mathlib.Nat.{le_of_suc-le-suc, not-suc-le-zero, zero-add, add-zero, add-suc, suc-add}
 use lib.ListN.{length, get_or}
 use Rattle.binar.specs.Bits.{bit}
 use Rattle.binar.proofs.Digits.{bit_down}
@@ -22,7 +22,7 @@ module _ (n v : ℕ) where
   from_at : (k q i : ℕ) → i < k → get_or (map byte (letters_from n v k q)) i 0 ≡ printed (q + i)
   unfolding letters_from
   from_at zero q i h = absurd (not-suc-le-zero h)
-  from_at (suc k) q zero h = ap printed (sym (add_zero q))
+  from_at (suc k) q zero h = ap printed (sym (add-zero q))
   from_at (suc k) q (suc i) h = from_at k (suc q) i (le_of_suc-le-suc h) ∙ ap printed (suc-add q i ∙ sym (add-suc q i))
 
   pub spelling_length : length (spelling n v) ≡ n
@@ -32,4 +32,4 @@ module _ (n v : ℕ) where
   -- its z among the columns from n up
   pub spelling_at : (q : ℕ) → q < n → byte (letter (bit q v) (bit q (v / 2 ^ n))) ≡ get_or (spelling n v) q 0
   unfolding spelling letters
-  spelling_at q h = ap (λ t. byte (letter (bit q v) t)) (bit_down n q v) ∙ sym (from_at n 0 q h ∙ ap printed (zero_add q))
+  spelling_at q h = ap (λ t. byte (letter (bit q v) t)) (bit_down n q v) ∙ sym (from_at n 0 q h ∙ ap printed (zero-add q))

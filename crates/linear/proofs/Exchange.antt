@@ -11,24 +11,24 @@ use Rattle.blocks.specs.Matrices.{All}
 use Rattle.blocks.proofs.All.{All-map}
 use Rattle.linear.specs.VectorSpace.{VectorSpace, scale}
 use Rattle.linear.specs.Span.{InSpan, Indep}
-use Rattle.linear.proofs.Sums.{add_zero, left_comm, self_left, cancel_right, swap4, scale_xor}
+use Rattle.linear.proofs.Sums.{add-zero, left_comm, self_left, cancel_right, swap4, scale_xor}
 
 module _ (S : VectorSpace) where
-  open S use {Car, add as ◌⊕◌, o, add_assoc, add_comm, add_self, zero_add}
+  open S use {Car, add as ◌⊕◌, o, add_assoc, add_comm, add_self, zero-add}
 
   infixl 60 ◌⊕◌
   pub span_zero : (vs : List Car) → InSpan S vs o
   span_zero [] = refl
-  span_zero (v ∷ vs) = (false, rw add_zero (span_zero vs))
+  span_zero (v ∷ vs) = (false, rw add-zero (span_zero vs))
 
   pub span_skip : (v : Car) (vs : List Car) (x : Car) → InSpan S vs x → InSpan S (v ∷ vs) x
-  span_skip v vs x h = (false, rw add_zero h)
+  span_skip v vs x h = (false, rw add-zero h)
 
   pub span_head : (v : Car) (vs : List Car) → InSpan S (v ∷ vs) v
   span_head v vs = (true, rw add_self (span_zero vs))
 
   pub span_add : (vs : List Car) (x y : Car) → InSpan S vs x → InSpan S vs y → InSpan S vs (x ⊕ y)
-  span_add [] x y h k = rw (h, k, zero_add)
+  span_add [] x y h k = rw (h, k, zero-add)
   span_add (v ∷ vs) x y (c, h) (d, k) = (
     c ⊻ d,
     rw (scale_xor, swap4) (span_add vs (x ⊕ scale S c v) (y ⊕ scale S d v) h k),
@@ -69,7 +69,7 @@ module _ (S : VectorSpace) where
     pub holds : (x : Car) → InSpan S (vs ++ us) x → InSpan S (rest ++ w ∷ us) x
 
   put_in : (vs us : List Car) (v w x : Car) (c : Bool) → InSpan S (vs ++ us) (w ⊕ v) → InSpan S (vs ++ us) (x ⊕ scale S c v) → InSpan S (vs ++ w ∷ us) x
-  put_in vs us v w x false h k = span_mid vs w us x (rw add_zero at k)
+  put_in vs us v w x false h k = span_mid vs w us x (rw add-zero at k)
   put_in vs us v w x true h k =
       rw both at (span_add (vs ++ w ∷ us) ((w ⊕ v) ⊕ (x ⊕ v)) w (span_mid vs w us ((w ⊕ v) ⊕ (x ⊕ v)) (span_add (vs ++ us) (w ⊕ v) (x ⊕ v) h k)) (span_mid_self vs w us))
     where
@@ -84,7 +84,7 @@ module _ (S : VectorSpace) where
     holds = λ x k. put_in vs us v w x k.0 h k.1;
   }
   exchange (v ∷ vs) us w (false, h) no-w =
-      let e = exchange vs us w (rw add_zero at h) no-w in record {
+      let e = exchange vs us w (rw add-zero at h) no-w in record {
         rest = v ∷ e.rest;
         less = ap suc e.less;
         holds = λ x k. (k.0, e.holds (x ⊕ scale S k.0 v) k.1);

@@ -9,7 +9,7 @@ use Rattle.linear.specs.VectorSpace.{VectorSpace, scale}
 
 -- the two elements themselves
 abbrev pub 𝔹 : VectorSpace
-𝔹 = record { Car = Bool; add = ◌⊻◌; o = false; add_assoc = bxor_assoc; add_comm = bxor_comm; add_self = bxor_self; zero_add = λ x. refl }
+𝔹 = record { Car = Bool; add = ◌⊻◌; o = false; add_assoc = bxor_assoc; add_comm = bxor_comm; add_self = bxor_self; zero-add = λ x. refl }
 
 pub scale_true : (c : Bool) → scale 𝔹 c true ≡ c
 scale_true true = refl
@@ -17,7 +17,7 @@ scale_true false = refl
 
 -- rows
 abbrev pub 𝕎 : VectorSpace
-𝕎 = record { Car = ℕ; add = ◌⊕◌; o = 0; add_assoc = sum_assoc; add_comm = sum_comm; add_self = sum_self; zero_add = zero_sum }
+𝕎 = record { Car = ℕ; add = ◌⊕◌; o = 0; add_assoc = sum_assoc; add_comm = sum_comm; add_self = sum_self; zero-add = zero_sum }
 
 -- pairs
 abbrev pub Prod : VectorSpace → VectorSpace → VectorSpace
@@ -28,5 +28,5 @@ Prod S T = record {
   add_assoc = λ x y z i. (S.add_assoc x.0 y.0 z.0 i, T.add_assoc x.1 y.1 z.1 i);
   add_comm = λ x y i. (S.add_comm x.0 y.0 i, T.add_comm x.1 y.1 i);
   add_self = λ x i. (S.add_self x.0 i, T.add_self x.1 i);
-  zero_add = λ x i. (S.zero_add x.0 i, T.zero_add x.1 i);
+  zero-add = λ x i. (S.zero-add x.0 i, T.zero-add x.1 i);
 }

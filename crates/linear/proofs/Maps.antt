@@ -9,7 +9,7 @@ use Rattle.linear.specs.VectorSpace.{VectorSpace, scale}
 use Rattle.linear.specs.Span.{InSpan, Indep}
 use Rattle.linear.specs.Maps.{Additive, Pairing}
 use Rattle.linear.specs.Triangular.{Tri}
-use Rattle.linear.proofs.Sums.{add_zero, scale_o, cancel_right}
+use Rattle.linear.proofs.Sums.{add-zero, scale_o, cancel_right}
 use Rattle.linear.proofs.Instances.{𝔹}
 
 pub same_of_beq : (a b : Bool) → beq a b ≡ true → a ≡ b
@@ -21,7 +21,7 @@ same_of_beq false false e = refl
 module _ (S T : VectorSpace) (f : S.Car → T.Car) (f-add : Additive S T f) where
   pub map_o : f S.o ≡ T.o
   map_o =
-      sym (cancel_right T (f S.o) (f S.o)) ∙ ap (λ t. T.add t (f S.o)) (sym (f-add S.o S.o) ∙ ap f (S.zero_add S.o))
+      sym (cancel_right T (f S.o) (f S.o)) ∙ ap (λ t. T.add t (f S.o)) (sym (f-add S.o S.o) ∙ ap f (S.zero-add S.o))
       ∙ T.add_self (f S.o)
 
   pub map_scale : (c : Bool) (v : S.Car) → f (scale S c v) ≡ scale T c (f v)
@@ -50,7 +50,7 @@ module _ (S T : VectorSpace) (f : S.Car → T.Car) (f-add : Additive S T f) wher
   span_kernel [] a x h = rw h map_o
   span_kernel (v ∷ vs) a x (c, h) =
       let e : T.add (f x) (scale T c (f v)) ≡ T.o = sym (map_at x c v) ∙ span_kernel vs a.1 (S.add x (scale S c v)) h in
-      rw (a.0, scale_o T, add_zero T) at e
+      rw (a.0, scale_o T, add-zero T) at e
 
   -- a map that takes no two members to one keeps independence
   pub indep_map : ((x y : S.Car) → f x ≡ f y → x ≡ y) → (vs : List S.Car) → Indep S vs → Indep T (map f vs)
@@ -64,8 +64,8 @@ module _ (S T : VectorSpace) (f : S.Car → T.Car) (f-add : Additive S T f) wher
   pub zero_back : (vs : List S.Car) → Indep T (map f vs) → (x : S.Car) → InSpan S vs x → f x ≡ T.o → x ≡ S.o
   zero_back [] i x h e = h
   zero_back (v ∷ vs) i x (true, h) e =
-      absurd (i.0 (subst (InSpan T (map f vs)) (f-add x v ∙ ap (λ t. T.add t (f v)) e ∙ T.zero_add (f v)) (span_map vs (S.add x v) h)))
-  zero_back (v ∷ vs) i x (false, h) e = zero_back vs i.1 x (rw (add_zero S) at h) e
+      absurd (i.0 (subst (InSpan T (map f vs)) (f-add x v ∙ ap (λ t. T.add t (f v)) e ∙ T.zero-add (f v)) (span_map vs (S.add x v) h)))
+  zero_back (v ∷ vs) i x (false, h) e = zero_back vs i.1 x (rw (add-zero S) at h) e
 
 pub pairing_left : (S : VectorSpace) (ω : Pairing S) (y : S.Car) → Additive S 𝔹 (λ x. ω.at x y)
 pairing_left S ω y a b = ω.comm (S.add a b) y ∙ ω.right y a b ∙ ap₂ ◌⊻◌ (ω.comm y a) (ω.comm y b)

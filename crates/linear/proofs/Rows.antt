@@ -83,7 +83,7 @@ zero_by_units T f a m e k z =
     ap f (by_parts m z)
     ∙ a (z / 2 ^ m * 2 ^ m) (z % 2 ^ m)
     ∙ ap₂ T.add (k (z / 2 ^ m)) (span_kernel 𝕎 T f a (units m) e (z % 2 ^ m) (units_span m (z % 2 ^ m) (mod-lt z (pow_pos m))))
-    ∙ T.zero_add T.o
+    ∙ T.zero-add T.o
 
 -- ---- widths
 

@@ -10,7 +10,7 @@ pub record VectorSpace : Type 1 where
   pub add_assoc : (x y z : Car) → add (add x y) z ≡ add x (add y z)
   pub add_comm : (x y : Car) → add x y ≡ add y x
   pub add_self : (x : Car) → add x x ≡ o
-  pub zero_add : (x : Car) → add o x ≡ x
+  pub zero-add : (x : Car) → add o x ≡ x
 
 -- v where the bit is set, else the zero
 abbrev pub scale : (S : VectorSpace) → Bool → S.Car → S.Car

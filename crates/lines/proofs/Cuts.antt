@@ -3,7 +3,7 @@
 use mathlib.Core.Path.{◌≡◌, refl, sym, ap, ap₂, ◌∙◌}
 use mathlib.Core.List.{List, [], ◌∷◌, ◌++◌, append_assoc}
 use Prim.Native.Nat.{ℕ, zero, suc, ◌+◌, ◌-◌, ◌≤◌, ◌<◌, min}
-use native.Mathlib.Nat.{add_zero}
+use native.Mathlib.Nat.{add-zero}
 use native.Mathlib.Omega.{arith}
 use lib.ListN.{length, get_or, set, take, length-append, length-take}
 use lib.Seq.{take_all, take_at, take-suc, take-suc-set, get_or-append-add, length-take-le}
@@ -59,8 +59,8 @@ module _ (b : Line) (text : List ℕ) (k m : ℕ) (long : length b.bytes ≡ lin
   pub write_none : take (k + 0) b.bytes ≡ take (k + 0) (bytes_of b ++ text)
   unfolding bytes_of
   write_none =
-      ap (λ (j : ℕ). take j b.bytes) (add_zero k ∙ sym kept_length) ∙ take_counted b.count b.bytes
-      ∙ sym (ap (λ (j : ℕ). take j (bytes_of b ++ text)) (add_zero k) ∙ take_at (bytes_of b) text k kept_length)
+      ap (λ (j : ℕ). take j b.bytes) (add-zero k ∙ sym kept_length) ∙ take_counted b.count b.bytes
+      ∙ sym (ap (λ (j : ℕ). take j (bytes_of b ++ text)) (add-zero k) ∙ take_at (bytes_of b) text k kept_length)
 
   pub write_more : (q v : ℕ) (n : List ℕ) → length n ≡ line_room → q < m → v ≡ get_or text q 0 → take (k + q) n ≡ take (k + q) (bytes_of b ++ text) → take (k + (q + 1)) (set n (k + q) v) ≡ take (k + (q + 1)) (bytes_of b ++ text)
   write_more q v n h g e w =

@@ -4,7 +4,7 @@ use mathlib.Core.Path.{◌≡◌, refl, sym, ap, ap₂, ◌∙◌}
 use mathlib.Core.List.{List, [], ◌∷◌}
 use Prim.Native.Nat.{ℕ, zero, suc, ◌+◌, ◌*◌, ◌-◌, ◌^◌, ◌≤◌, ◌<◌}
 use native.Mathlib.Omega.{arith}
-use native.Mathlib.Nat.{pow-suc, pow-le-pow_right, zero_add, suc-add, sub_self}
+use native.Mathlib.Nat.{pow-suc, pow-le-pow_right, zero-add, suc-add, sub_self}
 use lib.ListN.{length, get_or, take, drop, length-drop, drop_of_length-le}
 use lib.Seq.{take-nil, drop-nil, take-take, drop-drop, length-take-le, get_or-take, get_or-drop}
 use Rattle.numbers.specs.Numbers.{little_endian, part, number}
@@ -100,7 +100,7 @@ number_drop bytes skip from size = ap (λ (l : List ℕ). little_endian (take si
 -- a part of a part
 
 drop_take : (l : List ℕ) (skip size : ℕ) → drop skip (take (skip + size) l) ≡ take size (drop skip l)
-drop_take l zero size = simp zero_add
+drop_take l zero size = simp zero-add
 drop_take [] (suc skip) size = simp (take-nil, drop-nil)
 drop_take (b ∷ l) (suc skip) size = simp suc-add (drop_take l skip size)
 

@@ -4,7 +4,7 @@ use mathlib.Core.Path.{◌≡◌, refl, sym, ap, ◌∙◌}
 use mathlib.Core.List.{List, []}
 use Prim.Native.Nat.{ℕ, zero, suc, ◌+◌, ◌*◌, ◌<◌}
 use native.Mathlib.Omega.{arith}
-use native.Mathlib.Nat.{zero_add}
+use native.Mathlib.Nat.{zero-add}
 use lib.ListN.{length, get_or}
 use Rattle.job.specs.Files.{entry_count_lem}
 use Rattle.lines.specs.declared.Name.{Name}
@@ -46,4 +46,4 @@ module _ (file : List ℕ) where
   pub file_named : (which : Name) (k i : ℕ) → i < entry_count_lem file → k ≡ place_of which i → entry_line file i which ≡ get_or (file_lines file) k []
   unfolding file_lines
   file_named which k i there e =
-      sym (ap (λ (at : ℕ). get_or (entry_lines file (entry_count_lem file) 0) at []) e ∙ line_named which (entry_count_lem file) 0 i there ∙ ap (λ (at : ℕ). entry_line file at which) (zero_add i))
+      sym (ap (λ (at : ℕ). get_or (entry_lines file (entry_count_lem file) 0) at []) e ∙ line_named which (entry_count_lem file) 0 i there ∙ ap (λ (at : ℕ). entry_line file at which) (zero-add i))

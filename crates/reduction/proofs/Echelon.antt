@@ -14,7 +14,7 @@ use Rattle.blocks.specs.Matrices.{All}
 use Rattle.blocks.proofs.All.{All-map, All-map₂, All-any, All-to_map, All-append, All-at}
 use Rattle.linear.specs.VectorSpace.{VectorSpace, scale}
 use Rattle.linear.specs.Maps.{Additive}
-use Rattle.linear.proofs.Sums.{add_zero, scale_o}
+use Rattle.linear.proofs.Sums.{add-zero, scale_o}
 use Rattle.linear.proofs.Instances.{𝔹}
 use Rattle.linear.proofs.Maps.{map_at}
 use Rattle.reduction.specs.Columns.{Pulled, unpulled, pulled, pull, Echelon, clear, column_by, column, columns}
@@ -41,7 +41,7 @@ module _ (S : VectorSpace) (has : ℕ → S.Car → Bool) (has-add : (c : ℕ) �
   infixl 60 ◌⊕◌
   -- a column that x has not stays where x is added
   unchanged : (k : ℕ) (x y : Car) (b : Bool) → has k x ≡ false → has k (y ⊕ scale S b x) ≡ has k y
-  unchanged k x y b e = map_at S 𝔹 (has k) (has-add k) y b x ∙ ap (λ t. has k y ⊻ t) (ap (scale 𝔹 b) e ∙ scale_o 𝔹 b) ∙ add_zero 𝔹 (has k y)
+  unchanged k x y b e = map_at S 𝔹 (has k) (has-add k) y b x ∙ ap (λ t. has k y ⊻ t) (ap (scale 𝔹 b) e ∙ scale_o 𝔹 b) ∙ add-zero 𝔹 (has k y)
 
   cleared : (c : ℕ) (x y : Car) → has c x ≡ true → has c (clear o ◌⊕◌ (has c) x y) ≡ false
   cleared c x y e = map_at S 𝔹 (has c) (has-add c) y (has c y) x ∙ ap (λ t. has c y ⊻ scale 𝔹 (has c y) t) e ∙ same (has c y)

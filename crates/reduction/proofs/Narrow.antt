@@ -4,7 +4,7 @@ use mathlib.Core.Path.{◌≡◌, refl, sym, ap, ◌∙◌}
 use mathlib.Core.Bool.{Bool, false}
 use mathlib.Core.List.{List, [], ◌∷◌, map}
 use Prim.Native.Nat.{ℕ, zero, suc, ◌+◌, ◌-◌, ◌^◌, ◌≤◌, ◌<◌}
-use native.Mathlib.Nat.{zero_add, add_zero, suc-add, add-suc}
+use native.Mathlib.Nat.{zero-add, add-zero, suc-add, add-suc}
 use native.Mathlib.Omega.{arith}
 use Rattle.binar.specs.Bits.{bit, ◌⊕◌}
 use Rattle.binar.proofs.Sums.{bit_of_zero}
@@ -27,7 +27,7 @@ module _ {A : Type 0} (has : A → Bool) where
 module _ {A : Type 0} (o : A) (add : A → A → A) (has : ℕ → A → Bool) where
   columns_add : (m j c : ℕ) (h : Echelon A) → columns o add has (m + j) c h ≡ columns o add has j (c + m) (columns o add has m c h)
   unfolding columns
-  columns_add zero j c h = ap (λ n. columns o add has n c h) (zero_add j) ∙ ap (λ n. columns o add has j n h) (sym (add_zero c))
+  columns_add zero j c h = ap (λ n. columns o add has n c h) (zero-add j) ∙ ap (λ n. columns o add has j n h) (sym (add-zero c))
   columns_add (suc m) j c h =
       ap (λ n. columns o add has n c h) (suc-add m j) ∙ columns_add m j (suc c) (column o add c (has c) h)
       ∙ ap (λ n. columns o add has j n (columns o add has m (suc c) (column o add c (has c) h))) (suc-add c m ∙ sym (add-suc c m))

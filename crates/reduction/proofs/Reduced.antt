@@ -17,7 +17,7 @@ use Rattle.blocks.proofs.Products.{times_cons}
 use Rattle.blocks.proofs.Units.{units_length}
 use Rattle.linear.specs.VectorSpace.{scale}
 use Rattle.linear.specs.Span.{InSpan, Indep}
-use Rattle.linear.proofs.Sums.{add_zero, scale_o}
+use Rattle.linear.proofs.Sums.{add-zero, scale_o}
 use Rattle.linear.proofs.Exchange.{span_zero, span_add, span_scale, span_members, span_trans, steinitz}
 use Rattle.linear.proofs.Instances.{𝔹, 𝕎, scale_true}
 use Rattle.linear.proofs.Maps.{map_at, span_kernel}
@@ -42,7 +42,7 @@ times_pivot (p ∷ ps) (u ∷ us) r c zero l =
 times_pivot (p ∷ ps) (u ∷ us) r c (suc i) l =
     ap (bit (get_or ps i 0)) (times_cons c u us) ∙ map_at 𝕎 𝔹 (bit (get_or ps i 0)) (bit_sum (get_or ps i 0)) (times (c / 2) us) (odd c) u
     ∙ ap₂ (λ s t. s ⊻ scale 𝔹 (odd c) t) (times_pivot ps us r.3 (c / 2) i (le_of_suc-le-suc l)) none
-    ∙ ap (λ t. bit i (c / 2) ⊻ t) (scale_o 𝔹 (odd c)) ∙ add_zero 𝔹 (bit i (c / 2)) ∙ sym (bit_suc i c)
+    ∙ ap (λ t. bit i (c / 2) ⊻ t) (scale_o 𝔹 (odd c)) ∙ add-zero 𝔹 (bit i (c / 2)) ∙ sym (bit_suc i c)
   where
     none : bit (get_or ps i 0) u ≡ false
     none = (All-at (λ q. (p < q) × (bit q u ≡ false)) ps r.2 i 0 (subst (λ n. i < n) (sym (rref_length bit ps us r.3)) (le_of_suc-le-suc l))).1

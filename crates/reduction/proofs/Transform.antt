@@ -13,7 +13,7 @@ use Rattle.blocks.proofs.All.{All-map, All-to_map, All-of_map, All-left}
 use Rattle.blocks.proofs.Products.{times_sum, matmul_is}
 use Rattle.blocks.proofs.Units.{units_length, units_lt, times_units}
 use Rattle.linear.specs.Span.{InSpan, Indep}
-use Rattle.linear.proofs.Sums.{add_zero}
+use Rattle.linear.proofs.Sums.{add-zero}
 use Rattle.linear.proofs.Exchange.{span_trans}
 use Rattle.linear.proofs.Instances.{𝕎, Prod}
 use Rattle.linear.proofs.Maps.{span_map}
@@ -36,7 +36,7 @@ module _ (m : ℕ) (M : List ℕ) where
 
   beside_closed : Closed (Prod 𝕎 𝕎) Beside
   beside_closed x y true h k = (ap₂ ◌⊕◌ k.0 h.0 ∙ sym (times_sum M y.1 x.1), sum_lt (length M) y.1 x.1 k.1 h.1)
-  beside_closed x y false h k = subst Beside (sym (add_zero (Prod 𝕎 𝕎) y)) k
+  beside_closed x y false h k = subst Beside (sym (add-zero (Prod 𝕎 𝕎) y)) k
 
   beside : All Beside (rows (row_reduce_with_transform_lem m M))
   unfolding row_reduce_with_transform_lem

@@ -14,7 +14,7 @@ use Rattle.blocks.proofs.All.{All-map₂, All-any, All-append}
 use Rattle.linear.specs.VectorSpace.{VectorSpace}
 use Rattle.linear.specs.Span.{InSpan, Indep}
 use Rattle.linear.specs.Maps.{Additive}
-use Rattle.linear.proofs.Sums.{add_zero, eq_of_sum}
+use Rattle.linear.proofs.Sums.{add-zero, eq_of_sum}
 use Rattle.linear.proofs.Exchange.{span_add, span_head}
 use Rattle.linear.proofs.Instances.{𝔹}
 use Rattle.linear.proofs.Maps.{map_at, map_o, span_kernel}
@@ -37,7 +37,7 @@ module _ (S : VectorSpace) (has : ℕ → S.Car → Bool) (has-add : (c : ℕ) �
   without : (p : ℕ) (u : Car) (vs : List Car) → has p u ≡ true → All (λ v. has p v ≡ false) vs → (y : Car) → has p y ≡ false → InSpan S (u ∷ vs) y → InSpan S vs y
   without p u vs t z y e (true, h) =
       absurd (true≢false (sym (map_at S 𝔹 (has p) (has-add p) y true u ∙ ap₂ ◌⊻◌ e t) ∙ span_kernel S 𝔹 (has p) (has-add p) vs z (y ⊕ u) h))
-  without p u vs t z y e (false, h) = rw (add_zero S) at h
+  without p u vs t z y e (false, h) = rw (add-zero S) at h
 
   -- what has no one at the pivots is a sum of the rows behind the list, which have none there either
   pub past_pivots : (ps : List ℕ) (us ds : List Car) → Rref has ps us → All (λ p. All (λ d. has p d ≡ false) ds) ps → (y : Car) → All (λ p. has p y ≡ false) ps

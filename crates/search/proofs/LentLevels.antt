@@ -4,7 +4,7 @@ use mathlib.Core.Path.{◌≡◌, refl, sym, ap, ap₂, ◌∙◌, subst}
 use mathlib.Core.Logic.{⊎_elim}
 use mathlib.Core.List.{List, [], ◌∷◌, ◌++◌}
 use Prim.Native.Nat.{ℕ, zero, suc, ◌+◌, ◌-◌, ◌/◌, ◌≤◌, ◌<◌}
-use native.Mathlib.Nat.{add_zero, zero_add, suc-add, eq-or-lt_of_le, le_refl}
+use native.Mathlib.Nat.{add-zero, zero-add, suc-add, eq-or-lt_of_le, le_refl}
 use native.Mathlib.Omega.{arith}
 use lib.ListN.{length, get_or, set, take, drop, length-drop}
 use lib.Seq.{drop-drop, get_or-take, get_or-drop, get_or-set_same, get_or-set_other, take-take, length-take-le, ext_get_or, take-append-le, take-set-le, drop-set-lt, take-add, drop_at}
@@ -32,7 +32,7 @@ levels_behind d h = omega (arith, levels_step d h, levels_least (d - 1))
 
 levels_more : (k d : ℕ) → levels d ≤ levels (k + d)
 unfolding levels
-levels_more zero d = subst (λ n. levels d ≤ levels n) (sym (zero_add d)) (le_refl (levels d))
+levels_more zero d = subst (λ n. levels d ≤ levels n) (sym (zero-add d)) (le_refl (levels d))
 levels_more (suc k) d = subst (λ n. levels d ≤ levels n) (sym (suc-add k d)) (le_of (levels_more k d))
   where
     le_of : levels d ≤ levels (k + d) → levels d ≤ levels (suc (k + d))
@@ -143,7 +143,7 @@ module _ (k i at : ℕ) (w : List ℕ) (some : i < k) (left : drop i (found_in k
   step = left ∙ found_step (k - i) (drop at w) (omega arith)
 
   pub collect_draw : times (get_or (drop at w) (k - i) 0) (take (k - i) (drop at w)) ≡ get_or (found_in k w) i 0
-  collect_draw = sym (ap (λ n. get_or (found_in k w) n 0) (sym (add_zero i)) ∙ sym (get_or-drop i (found_in k w) 0 0) ∙ ap (λ l. get_or l 0 0) step)
+  collect_draw = sym (ap (λ n. get_or (found_in k w) n 0) (sym (add-zero i)) ∙ sym (get_or-drop i (found_in k w) 0 0) ∙ ap (λ l. get_or l 0 0) step)
 
   pub collect_next : drop (i + 1) (found_in k w) ≡ found_in (k - (i + 1)) (drop (at + (k - i) + (k - i)) w)
   collect_next =

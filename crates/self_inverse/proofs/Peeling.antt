@@ -5,7 +5,7 @@ use mathlib.Core.Bool.{Bool, true, false, true≢false}
 use mathlib.Core.List.{List, [], ◌∷◌, ◌++◌}
 use Prim.Native.Nat.{ℕ, suc, ◌+◌, ◌*◌, ◌^◌, ◌≤◌, ◌<◌}
 use native.Mathlib.Omega.{arith}
-use native.Mathlib.Nat.{add_zero as nat_add_zero, zero_add as nat_zero_add, zero-mul}
+use native.Mathlib.Nat.{add-zero as nat_add_zero, zero-add as nat_zero_add, zero-mul}
 use lib.Pow.{pow_pos}
 use lib.ListN.{length, get_or}
 use Rattle.binar.specs.Bits.{◌⊻◌, select, bit, dot, ◌⊕◌}

@@ -3,7 +3,7 @@
 use mathlib.Core.Path.{◌≡◌, refl, sym, ap, ◌∙◌}
 use mathlib.Core.List.{List, [], ◌∷◌, map}
 use Prim.Native.Nat.{ℕ, zero, suc, ◌+◌, ◌*◌, ◌<◌}
-use native.Mathlib.Nat.{add_zero, add-suc, suc-add, zero_add, le_of_suc-le-suc, not-suc-le-zero}
+use native.Mathlib.Nat.{add-zero, add-suc, suc-add, zero-add, le_of_suc-le-suc, not-suc-le-zero}
 use native.Mathlib.Omega.{arith}
 use lib.ListN.{length, get_or, length-map, get_or-map}
 use Rattle.numbers.specs.Numbers.{part, number}
@@ -14,7 +14,7 @@ use Rattle.sheets.specs.Sheets.{Gate, line_size, gate_count_lem, line, lines_fro
 pub line_read : (sheet : List ℕ) (g q c o : ℕ) → q ≡ number sheet (1 + line_size * g + 0) 1 → c ≡ number sheet (1 + line_size * g + 1) 1 → o ≡ number sheet (1 + line_size * g + 2) 2
     → record { qubits = q; count = c; offset = o } ≡ line sheet g
 unfolding line
-line_read sheet g q c o eq ec eo = simp (eq, ec, eo, add_zero)
+line_read sheet g q c o eq ec eo = simp (eq, ec, eo, add-zero)
 
 from_length : (sheet : List ℕ) (k g : ℕ) → length (lines_from sheet k g) ≡ k
 unfolding lines_from
@@ -24,7 +24,7 @@ from_length sheet (suc k) g = ap suc (from_length sheet k (suc g))
 from_at : (sheet : List ℕ) (d : SheetLine) (k g i : ℕ) → i < k → get_or (lines_from sheet k g) i d ≡ line sheet (g + i)
 unfolding lines_from
 from_at sheet d zero g i h = absurd (not-suc-le-zero h)
-from_at sheet d (suc k) g zero h = ap (line sheet) (sym (add_zero g))
+from_at sheet d (suc k) g zero h = ap (line sheet) (sym (add-zero g))
 from_at sheet d (suc k) g (suc i) h = from_at sheet d k (suc g) i (le_of_suc-le-suc h) ∙ ap (line sheet) (suc-add g i ∙ sym (add-suc g i))
 
 module _ (sheet : List ℕ) where
@@ -34,7 +34,7 @@ module _ (sheet : List ℕ) where
 
   pub line_in : (d : SheetLine) (g : ℕ) → g < gate_count_lem sheet → get_or (lines sheet) g d ≡ line sheet g
   unfolding lines
-  line_in d g h = from_at sheet d (gate_count_lem sheet) 0 g h ∙ ap (line sheet) (zero_add g)
+  line_in d g h = from_at sheet d (gate_count_lem sheet) 0 g h ∙ ap (line sheet) (zero-add g)
 
   pub gates_length : length (gates_of sheet) ≡ gate_count_lem sheet
   unfolding gates_of

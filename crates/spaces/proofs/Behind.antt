@@ -4,7 +4,7 @@ use mathlib.Core.Path.{◌≡◌, refl, sym, ap, ap₂, ◌∙◌, subst}
 use mathlib.Core.Logic.{⊎_elim}
 use mathlib.Core.List.{List, [], ◌∷◌, ◌++◌, map}
 use Prim.Native.Nat.{ℕ, zero, suc, ◌+◌, ◌-◌, ◌≤◌, ◌<◌}
-use native.Mathlib.Nat.{add_zero, zero_add, suc-add, eq-or-lt_of_le, le_of_suc-le-suc, not-suc-le-zero, le_refl}
+use native.Mathlib.Nat.{add-zero, zero-add, suc-add, eq-or-lt_of_le, le_of_suc-le-suc, not-suc-le-zero, le_refl}
 use native.Mathlib.Numerals.{add-one}
 use native.Mathlib.Omega.{arith}
 use lib.ListN.{length, get_or, set, take, length-append, length-map, get_or-append}
@@ -28,7 +28,7 @@ below_at (suc m) i h = ⊎_elim last (λ l. before l ∙ below_at m i l) (eq-or-
   where
     last : i ≡ m → get_or (below m ++ (m ∷ [])) i 0 ≡ i
     last e =
-        let at : i ≡ length (below m) + 0 = e ∙ sym (below_length m) ∙ sym (add_zero (length (below m))) in
+        let at : i ≡ length (below m) + 0 = e ∙ sym (below_length m) ∙ sym (add-zero (length (below m))) in
         ap (λ n. get_or (below m ++ (m ∷ [])) n 0) at ∙ get_or-append-add (below m) (m ∷ []) 0 0 ∙ sym e
 
     before : i < m → get_or (below m ++ (m ∷ [])) i 0 ≡ get_or (below m) i 0
@@ -44,7 +44,7 @@ over_from_none (suc k) (w ∷ out) = ap (λ l. w ∷ l) (over_from_none k out)
 
 over_from_more : (k : ℕ) (rows out : List ℕ) (i : ℕ) → i < length rows → set (over_from k (take i rows) out) (k + i) (get_or rows i 0) ≡ over_from k (take (suc i) rows) out
 unfolding over_from
-over_from_more zero rows out i h = ap (λ n. set (over (take i rows) out) n (get_or rows i 0)) (zero_add i) ∙ over_put rows out i h
+over_from_more zero rows out i h = ap (λ n. set (over (take i rows) out) n (get_or rows i 0)) (zero-add i) ∙ over_put rows out i h
 over_from_more (suc k) rows [] i h = ap (λ l. set l (suc k + i) (get_or rows i 0)) (over_no_room (take i rows)) ∙ sym (over_no_room (take (suc i) rows))
 over_from_more (suc k) rows (w ∷ out) i h =
     ap (λ n. set (w ∷ over_from k (take i rows) out) n (get_or rows i 0)) (suc-add k i) ∙ ap (λ l. w ∷ l) (over_from_more k rows out i h)
@@ -63,7 +63,7 @@ from_before k rows out i h = sym (get_or-take k (over_from k rows out) i 0 h) �
 
 over_from_at : (k : ℕ) (rows out : List ℕ) → k + length rows ≤ length out → (i : ℕ) → i < length rows → get_or (over_from k rows out) (k + i) 0 ≡ get_or rows i 0
 unfolding over_from
-over_from_at zero rows out room i h = ap (λ n. get_or (over rows out) n 0) (zero_add i) ∙ over_at rows out (omega arith) i h
+over_from_at zero rows out room i h = ap (λ n. get_or (over rows out) n 0) (zero-add i) ∙ over_at rows out (omega arith) i h
 over_from_at (suc k) rows [] room i h = absurd (omega arith)
 over_from_at (suc k) rows (w ∷ out) room i h = ap (λ n. get_or (w ∷ over_from k rows out) n 0) (suc-add k i) ∙ over_from_at k rows out (omega arith) i h
 

@@ -4,7 +4,7 @@ use mathlib.Core.Path.{◌≡◌, refl, sym, ap, ap₂, ◌∙◌}
 use mathlib.Core.Bool.{Bool, true, false, ◌&&◌, and_comm, and-false}
 use mathlib.Core.List.{List, [], ◌∷◌, map}
 use Prim.Native.Nat.{ℕ, zero, suc, ◌+◌, ◌*◌, ◌/◌, ◌%◌, ◌^◌, zero-le}
-use native.Mathlib.Nat.{add_zero, mul_assoc, mul_comm, mod-lt, pow-suc, zero-lt-suc, not-suc-le-zero}
+use native.Mathlib.Nat.{add-zero, mul_assoc, mul_comm, mod-lt, pow-suc, zero-lt-suc, not-suc-le-zero}
 use native.Mathlib.Numerals.{add-one, one-add}
 use native.Mathlib.Omega.{arith}
 use lib.Pow.{pow_pos, shl-shr, shr-shr, mod-pow-add}
@@ -16,7 +16,7 @@ use Rattle.blocks.specs.Matrices.{dots}
 use Rattle.blocks.proofs.Firsts.{First, first_later}
 use Rattle.blocks.proofs.Products.{dots_nil, dots_cons, bit_dots}
 use Rattle.linear.proofs.Instances.{𝔹}
-use Rattle.linear.proofs.Sums.{add_zero as bxor_none}
+use Rattle.linear.proofs.Sums.{add-zero as bxor_none}
 use Rattle.triangular.specs.Spaces.{drop_or_keep, complement}
 use Rattle.triangular.proofs.Complements.{complement_cons}
 use Rattle.spaces.specs.Levels.{without_column, shrunk}
@@ -44,7 +44,7 @@ unfolding without_column without
 without_column_lem j y off =
     let q = y / 2 ^ j in
     let l = y % 2 ^ j in
-    let even : q ≡ q / 2 * 2 = by_digits q ∙ ap (λ b. q / 2 * 2 + digit b) (sym (bit_zero_is_odd q) ∙ bit_down j 0 y ∙ ap (λ n. bit n y) (add_zero j) ∙ off) ∙ add_zero (q / 2 * 2) in
+    let even : q ≡ q / 2 * 2 = by_digits q ∙ ap (λ b. q / 2 * 2 + digit b) (sym (bit_zero_is_odd q) ∙ bit_down j 0 y ∙ ap (λ n. bit n y) (add-zero j) ∙ off) ∙ add-zero (q / 2 * 2) in
     let rest : y ⊕ l ≡ q * 2 ^ j = ap (λ t. t ⊕ l) (by_parts j y) ∙ sum_assoc (q * 2 ^ j) l l ∙ ap (λ t. q * 2 ^ j ⊕ t) (sum_self l) ∙ sum_zero (q * 2 ^ j) in
     let up : q * 2 ^ j ≡ q / 2 * 2 ^ j * 2 ^ 1 = ap (λ t. t * 2 ^ j) even ∙ mul_assoc (q / 2) 2 (2 ^ j) ∙ ap (λ t. q / 2 * t) (mul_comm 2 (2 ^ j)) ∙ sym (mul_assoc (q / 2) (2 ^ j) 2) in
     ap (λ t. l ⊕ t / 2 ^ 1) (rest ∙ up) ∙ ap (λ t. l ⊕ t) (shl-shr (q / 2 * 2 ^ j) 1) ∙ sum_comm l (q / 2 * 2 ^ j) ∙ parts_sum j (q / 2) l (mod-lt y (pow_pos j))

@@ -3,7 +3,7 @@
 use mathlib.Core.Path.{◌≡◌, sym, ap, ap₂, ◌∙◌}
 use mathlib.Core.Bool.{Bool, false}
 use Prim.Native.Nat.{ℕ, ◌+◌, ◌-◌, ◌*◌, ◌/◌, ◌%◌, ◌^◌, ◌≤◌, ◌<◌}
-use native.Mathlib.Nat.{mod-lt, mod-eq_of_lt, div-eq_of_lt, zero-mod, mul_assoc, mul-mod_left, add_zero}
+use native.Mathlib.Nat.{mod-lt, mod-eq_of_lt, div-eq_of_lt, zero-mod, mul_assoc, mul-mod_left, add-zero}
 use native.Mathlib.Omega.{arith}
 use lib.Arith.{digits_lt}
 use lib.Pow.{pow_pos, pow-lt, pow-add, mod-pow-add, split, shl-shr, high, low}
@@ -84,7 +84,7 @@ swap_rows n v h =
     let x = x_bits n v in
     let z = z_bits n v in
     let fits : x * 2 ^ n < row_bound = omega (arith, swap_lt n v, pow_bound (n + n) h) in
-    ap₂ ◌⊕◌ (mod-eq_of_lt fits ∙ sym (add_zero (x * 2 ^ n))) zero_high ∙ sum_parts n x 0 0 z (pow_pos n) (z_lt n v)
+    ap₂ ◌⊕◌ (mod-eq_of_lt fits ∙ sym (add-zero (x * 2 ^ n))) zero_high ∙ sum_parts n x 0 0 z (pow_pos n) (z_lt n v)
     ∙ ap₂ (λ s t. s * 2 ^ n + t) (sum_zero x) (zero_sum z)
   where
     zero_high : z_bits n v ≡ 0 * 2 ^ n + z_bits n v
@@ -94,7 +94,7 @@ swap_rows n v h =
 pub swap_low : (n u : ℕ) → u < 2 ^ n → swap_halves_lem n u ≡ u * 2 ^ n
 unfolding swap_halves_lem x_bits z_bits
 swap_low n u h =
-    ap₂ (λ s t. s * 2 ^ n + t) (mod-eq_of_lt h) (ap (λ t. t % 2 ^ n) (div-eq_of_lt h) ∙ zero-mod (2 ^ n)) ∙ add_zero (u * 2 ^ n)
+    ap₂ (λ s t. s * 2 ^ n + t) (mod-eq_of_lt h) (ap (λ t. t % 2 ^ n) (div-eq_of_lt h) ∙ zero-mod (2 ^ n)) ∙ add-zero (u * 2 ^ n)
 
 pub swap_high : (n u : ℕ) → u < 2 ^ n → swap_halves_lem n (u * 2 ^ n) ≡ u
 unfolding swap_halves_lem x_bits z_bits

@@ -10,7 +10,7 @@ use Rattle.blocks.specs.Matrices.{All}
 use Rattle.linear.specs.VectorSpace.{VectorSpace, scale}
 use Rattle.linear.specs.Span.{InSpan}
 use Rattle.linear.specs.Maps.{Additive, Form}
-use Rattle.linear.proofs.Sums.{add_zero, cancel_right, swap4, scale_o}
+use Rattle.linear.proofs.Sums.{add-zero, cancel_right, swap4, scale_o}
 use Rattle.linear.proofs.Instances.{𝔹}
 use Rattle.linear.proofs.Exchange.{span_add, span_head, span_skip}
 use Rattle.linear.proofs.Maps.{map_o, map_scale, span_kernel}
@@ -54,7 +54,7 @@ module _ (S : VectorSpace) (F : Form S) where
   pub square : (u v : Car) → E u u ≡ false → E v v ≡ false → E (u ⊕ v) (u ⊕ v) ≡ E u v ⊻ E v u
   square u v e f =
       F.right (u ⊕ v) u v ∙ ap₂ ◌⊻◌ (F.left u u v) (F.left v u v)
-      ∙ ap₂ (λ s t. (s ⊻ E v u) ⊻ (E u v ⊻ t)) e f ∙ bxor_comm (E v u) (E u v ⊻ false) ∙ ap (λ t. t ⊻ E v u) (add_zero 𝔹 (E u v))
+      ∙ ap₂ (λ s t. (s ⊻ E v u) ⊻ (E u v ⊻ t)) e f ∙ bxor_comm (E v u) (E u v ⊻ false) ∙ ap (λ t. t ⊻ E v u) (add-zero 𝔹 (E u v))
 
   abbrev pub Level : Car → List Car → Type 0
   Level b ys = All (λ y. E b y ⊻ E y b ≡ false) ys

@@ -5,7 +5,7 @@ use mathlib.Core.Bool.{Bool, true, false}
 use mathlib.Core.List.{List, [], ◌∷◌, ◌++◌, reverse, reverse-cons}
 use Rattle.linear.specs.VectorSpace.{VectorSpace, scale}
 use Rattle.binar.specs.Bits.{◌⊻◌}
-use Rattle.linear.proofs.Sums.{add_zero, cancel_right, swap4, scale_xor, scale_o}
+use Rattle.linear.proofs.Sums.{add-zero, cancel_right, swap4, scale_xor, scale_o}
 use Rattle.linear.specs.Span.{InSpan}
 use Rattle.linear.proofs.Instances.{𝔹}
 use Rattle.linear.specs.Maps.{Additive, Pairing}
@@ -22,7 +22,7 @@ twice false false true = refl
 twice false false false = refl
 
 module _ (S : VectorSpace) (ω : Pairing S) where
-  open S use {Car, add as ◌⊕◌, o, add_assoc, add_comm, add_self, zero_add}
+  open S use {Car, add as ◌⊕◌, o, add_assoc, add_comm, add_self, zero-add}
 
   infixl 60 ◌⊕◌
   unfoldable pub transvection : Car → Car → Car
@@ -50,7 +50,7 @@ module _ (S : VectorSpace) (ω : Pairing S) where
   at_turn u v y = map_at S 𝔹 (λ x. ω.at x y) (pairing_left S ω y) u (ω.at u v) v
 
   pub at_turn_self : (u v : Car) → ω.at (transvection v u) v ≡ ω.at u v
-  at_turn_self u v = at_turn u v v ∙ rw (ω.self, scale_o 𝔹, add_zero 𝔹)
+  at_turn_self u v = at_turn u v v ∙ rw (ω.self, scale_o 𝔹, add-zero 𝔹)
 
   pub turn_twice : (v u : Car) → transvection v (transvection v u) ≡ u
   unfolding transvection
@@ -83,7 +83,7 @@ module _ (S : VectorSpace) (ω : Pairing S) where
 
   pub turn_none : (v z : Car) → ω.at z v ≡ false → transvection v z ≡ z
   unfolding transvection
-  turn_none v z e = rw (transvection, e) (add_zero S z)
+  turn_none v z e = rw (transvection, e) (add-zero S z)
 
   -- a list in two parts
   pub act_append : (vs ws : List Car) (z : Car) → act (vs ++ ws) z ≡ act ws (act vs z)

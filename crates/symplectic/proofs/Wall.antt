@@ -7,7 +7,7 @@ use Prim.Native.Nat.{◌≤◌}
 use lib.ListN.{length, length-map}
 use Rattle.linear.specs.VectorSpace.{VectorSpace, scale}
 use Rattle.binar.specs.Bits.{◌⊻◌}
-use Rattle.linear.proofs.Sums.{add_zero, left_comm, self_left, cancel_right, eq_of_sum, solve4}
+use Rattle.linear.proofs.Sums.{add-zero, left_comm, self_left, cancel_right, eq_of_sum, solve4}
 use Rattle.blocks.specs.Matrices.{All}
 use Rattle.blocks.proofs.All.{All-map, All-map₂, All-of_map, All-to_map, All-any}
 use Rattle.linear.proofs.Exchange.{span_members, span_add, steinitz, steinitz_span, steinitz_indep}
@@ -43,17 +43,17 @@ kept S ω N x y =
 -- the product of the turns of a triangular list, where the pairing of the images is the form and its opposite together
 module _ (S : VectorSpace) (ω : Pairing S) (Q : VectorSpace) (f : Q.Car → S.Car) (f-add : Additive Q S f) (K : Q.Car → Q.Car → Bool)
     (K-right : (p : Q.Car) → Additive Q 𝔹 (K p)) (K-sum : (p q : Q.Car) → ω.at (f p) (f q) ≡ K p q ⊻ K q p) where
-  open S use {Car, add as ◌⊕◌, o, add_assoc, add_comm, add_self, zero_add}
+  open S use {Car, add as ◌⊕◌, o, add_assoc, add_comm, add_self, zero-add}
 
   infixl 60 ◌⊕◌
   pub act_of_tri : (ps : List Q.Car) → Tri K ps → (q : Q.Car) → InSpan Q ps q → (y : Car)
       → All (λ p. ω.at (f p) y ≡ K p q) ps → act S ω (map f ps) y ≡ y ⊕ f q
-  act_of_tri [] t q h y a = sym (rw (h, map_o Q S f f-add) (add_zero S y))
+  act_of_tri [] t q h y a = sym (rw (h, map_o Q S f f-add) (add-zero S y))
   act_of_tri (p ∷ ps) t q (c, h) y a =
       ap (act S ω (map f ps)) step
       ∙ act_of_tri ps t.2 q' h y' (All-map₂ later ps a.1 t.1)
       ∙ ap (λ t. y' ⊕ t) (map_at Q S f f-add q c p)
-      ∙ simp (add_assoc, left_comm S, add_self, add_zero S)
+      ∙ simp (add_assoc, left_comm S, add_self, add-zero S)
     where
       q' : Q.Car
       q' = Q.add q (scale Q c p)
@@ -78,7 +78,7 @@ module _ (S : VectorSpace) (ω : Pairing S) (Q : VectorSpace) (f : Q.Car → S.C
           ∙ sym (map_at Q 𝔹 (K r) (K-right r) q c p)
 
 module _ (S : VectorSpace) (ω : Pairing S) (N : Residue S ω) (P : VectorSpace) (ψ : P.Car → S.Car) (ψ-add : Additive P S ψ) where
-  open S use {Car, add as ◌⊕◌, o, add_assoc, add_comm, add_self, zero_add}
+  open S use {Car, add as ◌⊕◌, o, add_assoc, add_comm, add_self, zero-add}
 
   infixl 60 ◌⊕◌
   abbrev pub φ : P.Car → Car
@@ -95,7 +95,7 @@ module _ (S : VectorSpace) (ω : Pairing S) (N : Residue S ω) (P : VectorSpace)
 
   taken : (v : Car) (vs : List Car) (c : Bool) → (InSpan S vs v → ⊥) → InSpan S vs (v ⊕ scale S c v) → c ≡ true
   taken v vs true i k = refl
-  taken v vs false i k = absurd (i (rw add_zero at k))
+  taken v vs false i k = absurd (i (rw add-zero at k))
 
   -- the product of the turns of the φ ps takes each ψ p of the list to itself plus φ p
   abbrev Hits : List Car → P.Car → Type 0

@@ -9,7 +9,7 @@ use Rattle.binar.specs.Bits.{◌⊻◌}
 use Rattle.linear.specs.VectorSpace.{VectorSpace, scale}
 use Rattle.linear.specs.Span.{InSpan}
 use Rattle.linear.specs.Maps.{Additive, Pairing}
-use Rattle.linear.proofs.Sums.{add_zero, left_comm, self_left, scale_o}
+use Rattle.linear.proofs.Sums.{add-zero, left_comm, self_left, scale_o}
 use Rattle.linear.proofs.Instances.{𝔹}
 use Rattle.linear.proofs.Exchange.{span_add, span_skip}
 use Rattle.linear.proofs.Maps.{map_at, map_o, span_map, span_unmap, pairing_left}
@@ -31,7 +31,7 @@ module _ (S : VectorSpace) where
     holds : (y : Car) → InSpan S (map f zs) y → InSpan S (f x ∷ map f rest) y
 
   put_in : (ws : List Car) (w v y : Car) (c : Bool) → InSpan S ws (v ⊕ w) → InSpan S ws (y ⊕ scale S c w) → InSpan S (v ∷ ws) y
-  put_in ws w v y false h k = span_skip S v ws y (rw (add_zero S) at k)
+  put_in ws w v y false h k = span_skip S v ws y (rw (add-zero S) at k)
   put_in ws w v y true h k = (true, rw both at (span_add S ws (y ⊕ w) (v ⊕ w) k h))
     where
       both : (y ⊕ w) ⊕ (v ⊕ w) ≡ y ⊕ v
@@ -41,7 +41,7 @@ module _ (S : VectorSpace) where
   swap_in f [] x h n = absurd (n h)
   swap_in f (z ∷ zs) x (true, h) n = record { rest = zs; less = refl; holds = λ y k. put_in (map f zs) (f z) (f x) y k.0 h k.1 }
   swap_in f (z ∷ zs) x (false, h) n =
-      let r = swap_in f zs x (rw (add_zero S) at h) n in
+      let r = swap_in f zs x (rw (add-zero S) at h) n in
       record {
         rest = z ∷ r.rest;
         less = ap suc r.less;
@@ -98,7 +98,7 @@ module _ (S : VectorSpace) where
               let y = span_unmap S S N.of N.of_add (x ∷ s.rest) (N.of z) (s.holds (N.of z) (r z)) in
               let m = span_map S S M M-add (x ∷ s.rest) y.0 y.1 in
               rw (depends z y.0 (sym y.2))
-              (subst (InSpan S (map M s.rest)) (ap (λ t. M y.0 ⊕ t) (ap (scale S m.0) (dropped e) ∙ scale_o S m.0) ∙ add_zero S (M y.0)) m.1);
+              (subst (InSpan S (map M s.rest)) (ap (λ t. M y.0 ⊕ t) (ap (scale S m.0) (dropped e) ∙ scale_o S m.0) ∙ add-zero S (M y.0)) m.1);
         }
 
     -- where both are flat, every vector pairs to 0 with what N adds to x
@@ -108,7 +108,7 @@ module _ (S : VectorSpace) where
         -- what a flat action adds pairs to 0
         flat_pairs : ω.at (N.of z) (N.of x) ≡ false
         flat_pairs =
-            N.pairs z x ∙ ap (λ t. ω.at (N.of z) x ⊻ t) (ω.comm z (N.of x) ∙ sym (add_zero 𝔹 (ω.at (N.of x) z)))
+            N.pairs z x ∙ ap (λ t. ω.at (N.of z) x ⊻ t) (ω.comm z (N.of x) ∙ sym (add-zero 𝔹 (ω.at (N.of x) z)))
             ∙ sym (ap (λ t. ω.at t (z ⊕ x)) (N.of_add z x) ∙ pairing_left S ω (z ⊕ x) (N.of z) (N.of x)
             ∙ ap₂ ◌⊻◌ (ω.right (N.of z) z x ∙ ap (λ t. t ⊻ ω.at (N.of z) x) (f z)) (ω.right (N.of x) z x ∙ ap (λ t. ω.at (N.of x) z ⊻ t) (f x)))
             ∙ f (z ⊕ x)
@@ -122,5 +122,5 @@ module _ (S : VectorSpace) where
         now_pairs =
             ap (λ t. ω.at t z) (M-is z) ∙ map_at S 𝔹 (λ t. ω.at t z) (pairing_left S ω z) (N.of z) (ω.at (z ⊕ N.of z) (N.of x)) (N.of x)
             ∙ ap₂ (λ s t. s ⊻ scale 𝔹 t (ω.at (N.of x) z)) (f z)
-            (pairing_left S ω (N.of x) z (N.of z) ∙ ap (λ t. ω.at z (N.of x) ⊻ t) flat_pairs ∙ add_zero 𝔹 (ω.at z (N.of x)))
+            (pairing_left S ω (N.of x) z (N.of z) ∙ ap (λ t. ω.at z (N.of x) ⊻ t) flat_pairs ∙ add-zero 𝔹 (ω.at z (N.of x)))
             ∙ ap (scale 𝔹 (ω.at z (N.of x))) (ω.comm (N.of x) z) ∙ twice (ω.at z (N.of x))

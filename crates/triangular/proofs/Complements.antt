@@ -14,7 +14,7 @@ use Rattle.blocks.proofs.All.{All-map, All-to_map}
 use Rattle.linear.specs.VectorSpace.{scale}
 use Rattle.linear.specs.Span.{InSpan}
 use Rattle.linear.specs.Maps.{Additive}
-use Rattle.linear.proofs.Sums.{add_zero, cancel_right, swap4, scale_xor, scale_o}
+use Rattle.linear.proofs.Sums.{add-zero, cancel_right, swap4, scale_xor, scale_o}
 use Rattle.linear.proofs.Exchange.{span_skip, span_head, span_members}
 use Rattle.linear.proofs.Instances.{𝔹, 𝕎, scale_true}
 use Rattle.linear.proofs.Maps.{map_o, map_at, span_map}
@@ -31,7 +31,7 @@ module _ (f : ℕ → Bool) (f-add : Additive 𝕎 𝔹 f) where
   at_plus_one x c m e = map_at 𝕎 𝔹 f f-add x c m ∙ ap (λ t. f x ⊻ t) (ap (scale 𝔹 c) e ∙ scale_true c)
 
   at_plus_none : (x : ℕ) (c : Bool) (m : ℕ) → f m ≡ false → f (x ⊕ select 0 c m) ≡ f x
-  at_plus_none x c m e = map_at 𝕎 𝔹 f f-add x c m ∙ ap (λ t. f x ⊻ t) (ap (scale 𝔹 c) e ∙ scale_o 𝔹 c) ∙ add_zero 𝔹 (f x)
+  at_plus_none x c m e = map_at 𝕎 𝔹 f f-add x c m ∙ ap (λ t. f x ⊻ t) (ap (scale 𝔹 c) e ∙ scale_o 𝔹 c) ∙ add-zero 𝔹 (f x)
 
   past_add : (m : ℕ) → Additive 𝕎 𝕎 (past m)
   past_add m x y =

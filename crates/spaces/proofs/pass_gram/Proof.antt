@@ -3,7 +3,7 @@
 use mathlib.Core.Path.{◌≡◌, refl, sym, ap, ◌∙◌}
 use mathlib.Core.List.{map}
 use Prim.Native.Nat.{ℕ, ◌+◌, ◌-◌, ◌≤◌, ◌<◌}
-use native.Mathlib.Nat.{add_zero, zero_add}
+use native.Mathlib.Nat.{add-zero, zero-add}
 use native.Mathlib.Omega.{arith}
 use lib.ListN.{length, get_or, take}
 use Rattle.binar.specs.Bits.{bit}
@@ -39,7 +39,7 @@ loop-holds c =
     let s = c.before.before.before.before.before.before.args in
     let d = s.d in
     let R = rows_in_lem s.gram.now in
-    (search rules, search rules, refl, from_start (d + d) (gram_at (val s.h) s.j (take d R)) (d - 1) R, c.row2.ensures, λ t. ap (λ n. bit n (val s.h)) (sym (zero_add t)))
+    (search rules, search rules, refl, from_start (d + d) (gram_at (val s.h) s.j (take d R)) (d - 1) R, c.row2.ensures, λ t. ap (λ n. bit n (val s.h)) (sym (zero-add t)))
 
 sub-i : tie.Need-overflow-sub-i invariant-loop decreases-loop
 sub-i c = c.before.loop.invariant.0
@@ -88,7 +88,7 @@ loop-again c =
     let u : val c.before.before.before.before.before.before.before.row3.result ≡ get_or R at.n 0 = c.before.before.before.before.before.before.before.row3.ensures ∙ ap (λ w. get_or w at.n 0) at.invariant.3 ∙ from_before (d + d) (take i (map f (below (d - 1)))) R at.n (omega (arith, l)) in
     let digit = digit_next (val s.h) (val at.r) (val c.before.before.before.before.before.before.before.before.before.shift-down.result) i at.invariant.5 c.before.before.before.before.before.before.before.before.before.shift-down.ensures in
     let passed = passed_is (val s.h) s.j d R (val c.before.before.before.before.before.before.before.before.before.before.before.before.before.before.row.result) i (omega (arith, here, l)) c.before.before.before.before.before.before.before.before.before.before.before.before.before.before.row.ensures (val at.x) (val c.before.before.before.before.before.before.before.row3.result) at.invariant.4 (u ∙ ap (λ n. get_or R n 0) (sym here))
-    c.before.before.before.before.before.before.bit.result (c.before.before.before.before.before.before.bit.ensures ∙ digit 0 ∙ ap (λ n. bit n (val s.h)) (add_zero (i + 1))) (val c.before.before.before.before.before.passed.result) c.before.before.before.before.before.passed.ensures in (
+    c.before.before.before.before.before.before.bit.result (c.before.before.before.before.before.before.bit.ensures ∙ digit 0 ∙ ap (λ n. bit n (val s.h)) (add-zero (i + 1))) (val c.before.before.before.before.before.passed.result) c.before.before.before.before.before.passed.ensures in (
       search rules,
       omega (arith, l),
       search rules,

@@ -3,7 +3,7 @@
 use mathlib.Core.Path.{◌≡◌, refl, sym, ap, ◌∙◌}
 use mathlib.Core.List.{◌++◌}
 use Prim.Native.Nat.{◌+◌, ◌-◌, ◌≤◌, ◌<◌}
-use native.Mathlib.Nat.{zero_add}
+use native.Mathlib.Nat.{zero-add}
 use native.Mathlib.Omega.{arith}
 use lib.ListN.{length, take, drop}
 use Rattle.binar.specs.Rows.{val}
@@ -33,7 +33,7 @@ loop-holds : tie.Need-loop-init invariant-loop decreases-loop
 loop-holds c =
     let s = c.before.before.before.before.before.args in
     let e : s.k - 0 ≡ s.k = omega arith in
-    (search rules, refl, ap (λ n. 0 + levels n) e ∙ zero_add (levels s.k), ap (λ n. found_in n (rows_in_lem s.basis.now)) (sym e), refl)
+    (search rules, refl, ap (λ n. 0 + levels n) e ∙ zero-add (levels s.k), ap (λ n. found_in n (rows_in_lem s.basis.now)) (sym e), refl)
 
 sub-d : tie.Need-overflow-sub-d invariant-loop decreases-loop
 sub-d c = search rules
