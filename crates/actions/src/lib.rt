@@ -10,7 +10,7 @@ use binar::Row;
 use symplectic::MOST_ROWS;
 
 // The qubit count and the rows: row k is the image of basis vector k.
-#[derive(Drop)]
+#[derive(Clone, Copy)]
 pub struct Action {
     pub n: u64,
     pub rows: [Row; MOST_ROWS],

@@ -1,5 +1,7 @@
 // Rows of bits: one word each, known above by their value alone.
 // In the source: the crate binar, whose bit rows these stand for.
+#![tactic(auto)]
+
 ghost use Rattle.std.specs.Prelude.{◌≡◌, ◌+◌, ◌-◌, ◌*◌, ◌/◌, ◌%◌, ◌^◌, ◌<◌, ◌==◌, bit_or, nat_lt};
 ghost use Rattle.binar.specs.Bits.{◌⊕◌, select, bit as bit_of, dot as dot_of, weight as weight_of};
 ghost use Rattle.binar.specs.Rows.{val, width, row_bound, unit as unit_of, lowest as lowest_of};
@@ -7,7 +9,7 @@ ghost use Rattle.binar.specs.Rows.{val, width, row_bound, unit as unit_of, lowes
 // How many columns a row has.
 pub const WIDTH: usize = 64;
 
-#[derive(Drop)]
+#[derive(Clone, Copy)]
 pub struct Row {
     word: u64,
 }

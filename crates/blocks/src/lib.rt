@@ -1,5 +1,7 @@
 // Blocks of rows: rows in lent words.
 // In the source: the crate binar, whose bit matrices these stand for.
+#![tactic(auto)]
+
 ghost use Rattle.std.specs.Prelude.{◌≡◌, min, length, get_or, set};
 ghost use Rattle.binar.specs.Rows.{val};
 ghost use Rattle.blocks.specs.Words.{word_of, rows_in_lem, words_for};

@@ -19,14 +19,14 @@ use two_qubits::Entry;
 pub const ENTRIES: usize = 720;
 
 // What the book says of a code: the least length of its action, or that the code is not in the book.
-#[derive(Drop)]
+#[derive(Clone, Copy)]
 pub enum Lookup {
     Length { length: u64 },
     NotSymplectic,
 }
 
 // 0 or the number of the question that was answered no, and the least length, 0 on a refusal.
-#[derive(Drop)]
+#[derive(Clone, Copy)]
 pub struct Looked {
     pub number: u64,
     pub length: u64,

@@ -17,14 +17,14 @@ use binar::{Row, WIDTH};
 use symplectic::MOST_VECTORS;
 
 // Whether a construction was made, or stuck where it found no partner or no member to drop.
-#[derive(Drop)]
+#[derive(Clone, Copy)]
 enum Construction {
     Made,
     Stuck,
 }
 
 // A vector of a space beside its form row, or none.
-#[derive(Drop)]
+#[derive(Clone, Copy)]
 enum Picked {
     Vector { member: Row, row: Row },
     Nothing,

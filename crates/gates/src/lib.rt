@@ -21,7 +21,7 @@ use sheets::{SheetAnswer, SheetLine};
 use symplectic::MAX_QUBITS;
 
 // Which question of a gate is answered no, if any.
-#[derive(Drop)]
+#[derive(Clone, Copy)]
 enum GateQuestion {
     Passed,
     UnknownGate,
@@ -30,7 +30,7 @@ enum GateQuestion {
 }
 
 // What a gate sequence answers: how many rows it listed, or the first question that is answered no.
-#[derive(Drop)]
+#[derive(Clone, Copy)]
 pub enum GateAction {
     Rows { count: u64 },
     TooManyQubits,

@@ -16,7 +16,7 @@ const ENTRY_SIZE: u64 = 8;
 const LAST_INDEX: u64 = 2305843009213693951;
 
 // An entry of the file, in the file's sizes.
-#[derive(Drop)]
+#[derive(Clone, Copy)]
 pub struct Item {
     pub kind: u8,
     pub zero_byte: u8,
@@ -25,7 +25,7 @@ pub struct Item {
 }
 
 // Which question of the file is answered no, if any.
-#[derive(Drop)]
+#[derive(Clone, Copy)]
 pub enum FileAnswer {
     Passed,
     BadLength,

@@ -5,7 +5,7 @@ ghost use Rattle.symplectic.specs.Turns.{pairing};
 ghost use Rattle.letters.specs.Letters.{letter, vector, byte as byte_of};
 
 // A letter: a Pauli matrix without its sign.
-#[derive(Drop)]
+#[derive(Clone, Copy)]
 pub enum Letter {
     I,
     X,

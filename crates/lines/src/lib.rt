@@ -14,20 +14,20 @@ use questions::Figures;
 // How many bytes a line has room for: the longest greedy list fits. What does not fit is cut.
 pub const LINE_ROOM: usize = 4608;
 
-#[derive(Drop)]
+#[derive(Clone, Copy)]
 pub struct Line {
     pub bytes: [u8; LINE_ROOM],
     pub count: usize,
 }
 
-#[derive(Drop)]
+#[derive(Clone, Copy)]
 pub enum Name {
     Min,
     Greedy,
 }
 
 // A number as its tens and its last digit: a load may pass 64 bits.
-#[derive(Drop)]
+#[derive(Clone, Copy)]
 struct Tally {
     tens: u64,
     unit: u64,

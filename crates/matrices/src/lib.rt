@@ -1,5 +1,7 @@
 // Matrices in lent words: a row times a matrix, the product of two, rows laid into words and put over others.
 // In the source: the crate binar, `right_multiply` and `dot` of its bit matrices.
+#![tactic(auto)]
+
 ghost use Rattle.std.specs.Prelude.{◌≡◌, take};
 ghost use Rattle.binar.specs.Rows.{val};
 ghost use Rattle.blocks.specs.Matrices.{times as times_of, matmul};

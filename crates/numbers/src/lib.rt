@@ -1,5 +1,7 @@
 // Numbers that stand in lent bytes, little-endian; bytes past the end are 0.
 // Not in the source.
+#![tactic(auto)]
+
 ghost use Rattle.std.specs.Prelude.{◌≡◌, ◌+◌, ◌^◌, ◌<◌, ◌≤◌, min, get_or};
 ghost use Rattle.numbers.specs.Numbers.{number};
 

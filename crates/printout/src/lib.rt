@@ -25,7 +25,7 @@ const LIST_ROOM: usize = 130;
 
 // What a call for lines answers: how many lines it wrote and how many bytes they take, that there is no such line, or the file's first
 // question that is answered no.
-#[derive(Drop)]
+#[derive(Clone, Copy)]
 pub enum Page {
     Lines { count: u64, bytes: u64 },
     NoSuchLine,
@@ -35,13 +35,13 @@ pub enum Page {
 }
 
 // Whether the rows of an entry's action were found, or the number of the refusal that stands on both of its lines.
-#[derive(Drop)]
+#[derive(Clone, Copy)]
 enum EntryAction {
     Rows,
     Refused { number: u64 },
 }
 
-#[derive(Drop)]
+#[derive(Clone, Copy)]
 struct EntryRows {
     found: EntryAction,
     rows: [u64; MOST_ROWS],

@@ -11,7 +11,7 @@ use symplectic::MAX_QUBITS;
 
 // The figures of a call's answer: 0 or the number of the question that was answered no, how many vectors or rows it listed, and how
 // many draws its search took.
-#[derive(Drop)]
+#[derive(Clone, Copy)]
 pub struct Figures {
     pub number: u64,
     pub count: u64,
@@ -19,7 +19,7 @@ pub struct Figures {
 }
 
 // Which question is answered no, if any.
-#[derive(Drop)]
+#[derive(Clone, Copy)]
 pub enum Question {
     Passed,
     TooManyQubits,
@@ -29,7 +29,7 @@ pub enum Question {
 }
 
 // What a call that lists vectors without a search answers: how many it listed, or the first question that is answered no.
-#[derive(Drop)]
+#[derive(Clone, Copy)]
 pub enum Listing {
     Listed { count: u64 },
     TooManyQubits,

@@ -14,7 +14,7 @@ use questions::Figures;
 use symplectic::MAX_QUBITS;
 
 // What a rebuild answers: how many rows it listed, or the first question that is answered no.
-#[derive(Drop)]
+#[derive(Clone, Copy)]
 pub enum Rebuilt {
     Rows { count: u64 },
     TooManyQubits,

@@ -28,7 +28,7 @@ pub fn more(x: u64) -> u64
 }
 
 // How many records agree and differ, how many were not read, and whether there is no more to read.
-#[derive(Drop)]
+#[derive(Clone, Copy)]
 pub struct Score {
     pub agree: u64,
     pub differ: u64,

@@ -29,7 +29,7 @@ const SHORTER: u64 = 5;
 
 // A record's header: the call, the size of a word in bytes, how many words are lent and listed, and the answer. Of a choice between two
 // lists, rows and the first list are the lent words from the start, and the second list is the rest.
-#[derive(Drop)]
+#[derive(Clone, Copy)]
 struct Case {
     kind: u64,
     size: usize,

@@ -7,7 +7,7 @@ use libc::{STDIN_FILENO, STDOUT_FILENO};
 use records::more;
 
 // How many records of each kind agree and differ, and how many were not read.
-#[derive(Drop)]
+#[derive(Clone, Copy)]
 struct Score {
     agree: [u64; 7],
     differ: [u64; 7],
@@ -15,7 +15,7 @@ struct Score {
 }
 
 // The score after a record, and whether it was the last.
-#[derive(Drop)]
+#[derive(Clone, Copy)]
 struct Step {
     score: Score,
     ended: bool,

@@ -19,7 +19,7 @@ const ENTRY: usize = 65;
 
 // A record's header: the size of a word in bytes, how many words follow, how many of them are rows, how many behind those are listed, how
 // many entries the rest is, how many words are lent for the list and for the memory, and the call and its answer.
-#[derive(Drop)]
+#[derive(Clone, Copy)]
 struct Case {
     size: usize,
     words: usize,

@@ -15,7 +15,7 @@ const FILL: u64 = 0xa5a5a5a5a5a5a5a5;
 
 // A record's header: how many bytes the sheet and the sequence take, how many rows follow, how many output words are lent, the qubit count,
 // and the numbers that the load, the call with the lent sheet and the call with the sheet in force answer.
-#[derive(Drop)]
+#[derive(Clone, Copy)]
 struct Case {
     sheet: usize,
     gates: usize,

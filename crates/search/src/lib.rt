@@ -28,14 +28,14 @@ use memory::ENTRY;
 use triangular::Ending;
 
 // How a search ended, and how many draws have been taken by then.
-#[derive(Drop)]
+#[derive(Clone, Copy)]
 pub struct Ended {
     pub ending: Ending,
     pub looks: u64,
 }
 
 // The same, and how many words of the memory are in use.
-#[derive(Drop)]
+#[derive(Clone, Copy)]
 struct Step {
     ending: Ending,
     looks: u64,
@@ -43,7 +43,7 @@ struct Step {
 }
 
 // What is known of a space before its first draw.
-#[derive(Drop)]
+#[derive(Clone, Copy)]
 enum Asked {
     Held,
     Alternating,

@@ -23,7 +23,7 @@ use questions::{Figures, Listing};
 use symplectic::{MOST_ROWS, MOST_VECTORS};
 
 // What the call answers: what a call that lists without a search does, or that the action is not its own inverse.
-#[derive(Drop)]
+#[derive(Clone, Copy)]
 pub enum SelfInverse {
     Answered { listing: Listing },
     NotSelfInverse,

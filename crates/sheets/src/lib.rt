@@ -20,7 +20,7 @@ pub const SIX_GATES: [u8; 37] = [
 ];
 
 // The line of a gate: how many qubits it reads, how many turns it has, and the offset of these from the sheet's start.
-#[derive(Drop)]
+#[derive(Clone, Copy)]
 pub struct SheetLine {
     pub qubits: u8,
     pub count: u8,
@@ -28,7 +28,7 @@ pub struct SheetLine {
 }
 
 // Which question of a sheet is answered no, if any.
-#[derive(Drop)]
+#[derive(Clone, Copy)]
 pub enum SheetAnswer {
     Passed,
     Malformed,

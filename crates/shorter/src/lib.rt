@@ -13,7 +13,7 @@ use actions::Action;
 use questions::Question;
 
 // Which list is played, or the first question that is answered no.
-#[derive(Drop)]
+#[derive(Clone, Copy)]
 pub enum Choice {
     First,
     Second,
@@ -25,7 +25,7 @@ pub enum Choice {
 }
 
 // 0 or the number of the question that was answered no, and which list is played: 1 for the first, 2 for the second, 0 on a refusal.
-#[derive(Drop)]
+#[derive(Clone, Copy)]
 pub struct Chosen {
     pub number: u64,
     pub list: u64,

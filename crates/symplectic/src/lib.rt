@@ -1,5 +1,7 @@
 // Vectors of n qubits: the pairing, turns, the identity, the symplectic test.
 // In the source: transvection_exact.rs, `transvection_matrix`, `symplectic_dual`, `right_multiply_transvection`.
+#![tactic(auto)]
+
 ghost use Rattle.std.specs.Prelude.{◌≡◌, ◌+◌, ◌<◌, ◌≤◌, length};
 ghost use Rattle.binar.specs.Bits.{◌⊕◌, select, dot};
 ghost use Rattle.binar.specs.Rows.{val};

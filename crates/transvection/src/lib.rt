@@ -20,7 +20,7 @@ use questions::Listing;
 const RECORD_ROOM: usize = 130;
 
 // What a search of the rows finds.
-#[derive(Drop)]
+#[derive(Clone, Copy)]
 enum Found {
     Vector { row: Row },
     Nothing,

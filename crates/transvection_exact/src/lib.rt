@@ -18,7 +18,7 @@ use symplectic::{MOST_ROWS, MOST_VECTORS};
 use triangular::Ending;
 
 // What the call answers: how many vectors it listed after how many looks, or the first question that is answered no.
-#[derive(Drop)]
+#[derive(Clone, Copy)]
 pub enum Minimal {
     Listed { count: u64, looks: u64 },
     TooManyQubits,

@@ -2,7 +2,7 @@
 // In the source: transvection_exact.rs, `is_alternating`, `SpanVectors`, `right_orthogonal_complement`, `triangularize_subspace`.
 
 // How a search ends.
-#[derive(Drop)]
+#[derive(Clone, Copy)]
 pub enum Ending {
     Found,
     Failed,

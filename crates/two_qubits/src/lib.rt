@@ -3,7 +3,7 @@
 // Not in the source.
 
 // An entry of the book: the code of an action, and its least length.
-#[derive(Drop)]
+#[derive(Clone, Copy)]
 pub struct Entry {
     pub code: u16,
     pub length: u8,

@@ -1,0 +1,26 @@
+-- `follow` puts the turned rows over the rows, one by one, by `over-next`.
+use mathlib.Core.Path.{◌≡◌, refl, sym, ap, ◌∙◌}
+use mathlib.Core.List.{◌++◌}
+use Prim.Native.Nat.{ℕ, ◌-◌, ◌≤◌, ◌<◌}
+use native.Mathlib.Nat.{le_refl}
+use native.Mathlib.Omega.{arith}
+use lib.ListN.{length, take, drop}
+use Rattle.binar.specs.Rows.{val}
+use Rattle.blocks.specs.Words.{rows_in_lem}
+use Rattle.blocks.proofs.Overs.{over_next}
+use Rattle.symplectic.specs.Sizes.{capped}
+use Rattle.symplectic.specs.Turns.{turn, followed}
+use Rattle.symplectic.specs.inner.Vectors.{swap_halves_lem}
+use Rattle.symplectic.proofs.Pairings.{swap_turn}
+use Rattle.symplectic.proofs.Products.{followed_length, followed_at}
+use Rattle.symplectic.proofs.Sizes.{capped_le}
+use Rattle.blocks.proofs.Overs.{over_left, over_whole}
+use borrow.Author.Rules.{rules}
+use Rattle.symplectic.proofs.follow.Given as goal
+
+abbrev pub invariant-loop-i : goal.invariant-loop-i
+invariant-loop-i l =
+    (l.i ≤ l.count) × (length l.w ≡ length l.initial.w) × (rows_in_lem l.w ≡ take l.i (followed (capped l.n) (rows_in_lem l.initial.w) (val l.v)) ++ drop l.i (rows_in_lem l.initial.w))
+
+abbrev pub decreases-loop-i : goal.decreases-loop-i
+decreases-loop-i l = l.count - l.i
