@@ -1,5 +1,7 @@
 // Actions by value: a qubit count and rows, taken from lent words, laid into them, compared.
 // In the source: transvection_exact.rs, `action_matrix`.
+#![tactic(auto)]
+
 ghost use Rattle.std.specs.Prelude.{◌≡◌, ◌+◌};
 ghost use Rattle.blocks.specs.Words.{rows_of_words, laid, rows_in_lem};
 ghost use Rattle.symplectic.specs.Sizes.{capped as capped_of};

@@ -1,5 +1,7 @@
 // Reduction by columns: rows with their transform, the rank and the pivots.
 // In the source: transvection_exact.rs, `row_reduce_with_transform`.
+#![tactic(auto)]
+
 ghost use Rattle.std.specs.Prelude.{◌≡◌, true, false, ℕ, ◌≤◌, ◌<◌, get_or, take, drop, length};
 ghost use mathlib.Core.List.{map, zip};
 ghost use Rattle.binar.specs.Bits.{bit as bit_of};

@@ -1,0 +1,22 @@
+-- `same_rows` compares row by row, by `same-onward`; actions on different qubit counts differ by `rows-differ`.
+use mathlib.Core.Path.{◌≡◌, refl, sym, ap₂, ◌∙◌}
+use Prim.Native.Nat.{◌+◌, ◌-◌, ◌≤◌}
+use native.Mathlib.Omega.{arith}
+use lib.Dec.{eqb}
+use lib.ListN.{length, get_or, drop}
+use borrow.Author.Tests.{not-true, not-false}
+use Rattle.blocks.proofs.Values.{unmapped}
+use Rattle.symplectic.specs.Sizes.{most_rows}
+use Rattle.actions.specs.Actions.{qubits, matrix}
+use Rattle.symplectic.specs.Matches.{same_rows}
+use Rattle.actions.proofs.Arrays.{qubits_le, matrix_length, matrix_get, qubits_capped}
+use Rattle.symplectic.proofs.Matches.{rows_differ, same_end, same_onward, same_stopped}
+use borrow.Author.Rules.{rules}
+use Rattle.actions.proofs.same_rows.Given as goal
+
+abbrev pub invariant-loop-i : goal.invariant-loop-i
+invariant-loop-i l =
+    (l.i ≤ l.count) × (l.count ≤ most_rows) × (l.count ≡ qubits l.a + qubits l.a) × (l.count ≡ qubits l.b + qubits l.b) × (same_rows (drop l.i (matrix l.a)) (drop l.i (matrix l.b)) ≡ same_rows (matrix l.a) (matrix l.b))
+
+abbrev pub decreases-loop-i : goal.decreases-loop-i
+decreases-loop-i l = l.count - l.i

@@ -1,0 +1,32 @@
+-- `by_columns` does column after column, by `columns-step`; where every row has its pivot the others change nothing, by `columns-full`.
+use mathlib.Core.Path.{◌≡◌, refl, sym, ap, ◌∙◌}
+use mathlib.Core.List.{zip}
+use Prim.Native.Nat.{ℕ, ◌-◌, ◌≤◌}
+use native.Mathlib.Nat.{sub-zero}
+use lib.ListN.{length, take, drop, drop_of_length-le}
+use Rattle.binar.specs.Bits.{bit}
+use Rattle.blocks.specs.Words.{rows_in_lem}
+use Rattle.symplectic.specs.Picks.{add_both}
+use Rattle.reduction.specs.Columns.{Echelon, unreduced, columns}
+use Rattle.reduction.specs.inner.Sweeps.{halves}
+use Rattle.reduction.proofs.Columns.{columns_full}
+use Rattle.reduction.proofs.Flat.{columns_step, columns_done}
+use Rattle.reduction.proofs.Loops.{behind_kept}
+use Rattle.reduction.proofs.TwoLists.{zip_length}
+use Rattle.blocks.proofs.Lent.{lent_same}
+use native.Mathlib.Omega.{arith}
+use borrow.Author.Rules.{rules}
+use Rattle.reduction.proofs.by_columns.Given as goal
+
+-- k columns from c on
+abbrev pub steps : ℕ → ℕ → Echelon (ℕ × ℕ) → Echelon (ℕ × ℕ)
+steps k c h = columns (0, 0) add_both (λ i a. bit i a.0) k c h
+
+-- the columns before c are done, and the pivots before p written, no others
+abbrev pub invariant-loop-c : goal.invariant-loop-c
+invariant-loop-c l =
+    (l.c ≤ l.m) × (length l.a ≡ length l.initial.a) × (length l.t ≡ length l.initial.t) × (length l.pivots ≡ length l.initial.pivots) × (l.p ≤ length (rows_in_lem l.initial.a)) × (drop l.p l.pivots ≡ drop l.p l.initial.pivots)
+    × (steps (l.m - l.c) l.c (halves l.p (take l.p l.pivots) (zip (rows_in_lem l.a) (rows_in_lem l.t))) ≡ steps l.m 0 (unreduced (zip (rows_in_lem l.initial.a) (rows_in_lem l.initial.t))))
+
+abbrev pub decreases-loop-c : goal.decreases-loop-c
+decreases-loop-c l = l.m - l.c
