@@ -1,5 +1,7 @@
 // The questions that calls share, and what calls answer.
 // In the source there are none: its callers keep to what it wants.
+#![tactic(auto)]
+
 ghost use Rattle.std.specs.Prelude.{◌≡◌, ◌+◌};
 ghost use Rattle.blocks.specs.Words.{rows_of_words};
 ghost use Rattle.symplectic.specs.Sizes.{capped as capped_of};

@@ -1,5 +1,7 @@
 // I + F, the residue of an action, its basis and core.
 // In the source: transvection_exact.rs, `residue_matrix`, `residue_core`.
+#![tactic(auto)]
+
 ghost use Rattle.std.specs.Prelude.{◌≡◌, List, ◌++◌, ℕ, ◌+◌, ◌≤◌, ◌<◌, get_or, take, drop, length};
 ghost use Rattle.binar.specs.Rows.{val, width};
 ghost use Rattle.blocks.specs.Matrices.{dots as dots_of};
