@@ -1,5 +1,7 @@
 // The letters I, X, Y, Z of one qubit, and the commutation chart: what two of them pair to.
 // Not in the source.
+#![tactic(auto)]
+
 ghost use Rattle.std.specs.Prelude.{◌≡◌};
 ghost use Rattle.symplectic.specs.Turns.{pairing};
 ghost use Rattle.letters.specs.Letters.{letter, vector, byte as byte_of};
