@@ -1,5 +1,7 @@
 // The job file, read from lent bytes: its numbers, its entries, and the questions of the whole file.
 // Not in the source.
+#![tactic(auto)]
+
 ghost use Rattle.std.specs.Prelude.{◌≡◌, ◌+◌, ◌*◌, ◌<◌};
 ghost use Rattle.numbers.specs.Numbers.{number};
 ghost use Rattle.job.specs.Files.{qubit_count_lem, entry_count_lem, entry, part_size_lem, entry_passes_lem, entries_pass_lem, file_questions_lem};

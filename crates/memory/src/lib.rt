@@ -1,5 +1,7 @@
 // A memory of spaces that failed, in lent words: whole entries, one behind the other.
 // In document 02: item 6.
+#![tactic(auto)]
+
 ghost use Rattle.std.specs.Prelude.{◌≡◌, ◌/◌, length, take, replicate};
 ghost use Rattle.binar.specs.Rows.{width};
 ghost use Rattle.blocks.specs.Words.{laid, rows_in_lem};

@@ -1,5 +1,7 @@
 // The rebuild: the product of a lent list, laid into lent rows.
 // Not in the source.
+#![tactic(auto)]
+
 ghost use Rattle.std.specs.Prelude.{◌≡◌, ◌+◌, length};
 ghost use Rattle.blocks.specs.Words.{rows_of_words, rows_in_lem};
 ghost use Rattle.symplectic.specs.Sizes.{capped};

@@ -4,6 +4,8 @@
 // dimension d these are d rows of each; d more are for the sums of the first Gram rows, and behind the members for their reduced basis,
 // then, where the space has a good basis, for the draw by its coefficients. Behind them stands, in the same way, the space that the draw
 // passes on.
+#![tactic(auto)]
+
 mod levels; // levels.rt: the first space, and the draws that are kept
 mod remembers; // remembers.rt: a space looked up and entered, by its reduced basis
 mod words; // words.rt: words for a search, of four sizes

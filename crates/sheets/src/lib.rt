@@ -1,5 +1,7 @@
 // Gate sheets, read from lent bytes: their lines, their questions, the sheet in force, and our six gates as a sheet.
 // Not in the source.
+#![tactic(auto)]
+
 ghost use Rattle.std.specs.Prelude.{◌≡◌, true, ◌+◌, ◌≤◌, length};
 ghost use Rattle.symplectic.specs.Turns.{all_of};
 ghost use Rattle.sheets.specs.Sheets.{gate_count_lem, line, lines, gate_of, gates_of, line_fits_lem, well_formed_lem, turn_fits_lem, gate_fits_lem, sheet_questions_lem, in_force, StaysSound};

@@ -1,5 +1,7 @@
 // Spaces in lent rows: a form tested, the sums of first rows, what a draw passes on.
 // In the source: transvection_exact.rs, `is_alternating`, `SpanVectors`, `right_orthogonal_complement`.
+#![tactic(auto)]
+
 ghost use Rattle.std.specs.Prelude.{◌≡◌, ◌&&◌, ltb};
 ghost use Rattle.binar.specs.Bits.{select, ◌⊕◌};
 ghost use Rattle.binar.specs.Rows.{val};

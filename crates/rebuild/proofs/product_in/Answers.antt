@@ -1,0 +1,44 @@
+-- `product_in` makes the turns of the vectors in order, by `product-more`, from the identity.
+use mathlib.Core.Path.{◌≡◌, sym, ap, ◌∙◌}
+use Prim.Native.Nat.{◌+◌, ◌-◌, ◌≤◌, ◌<◌}
+use native.Mathlib.Omega.{arith}
+use lib.ListN.{length, take}
+use lib.Seq.{take_all}
+use Rattle.binar.specs.Rows.{val}
+use Rattle.blocks.specs.Words.{rows_of_words, rows_in_lem}
+use Rattle.blocks.proofs.Values.{rows_count, rows_word}
+use Rattle.symplectic.specs.Sizes.{capped}
+use Rattle.actions.specs.Actions.{padded}
+use Rattle.symplectic.specs.Turns.{product}
+use Rattle.actions.proofs.Arrays.{padded_is}
+use Rattle.symplectic.proofs.Products.{product_nil, product_more, product_length}
+use Rattle.symplectic.proofs.Work.{identity_whole}
+use borrow.Author.Rules.{rules}
+use Rattle.rebuild.proofs.product_in.Goals as goal
+
+pub loop-i-init : goal.loop-i-init
+loop-i-init c =
+    let s = c.args in
+    (search rules, search rules, c.put_identity.ensures ∙ identity_whole (capped s.n) (rows_in_lem s.w.now) c.requires ∙ sym (product_nil (capped s.n)))
+
+pub loop-i-preserved : goal.loop-i-preserved
+loop-i-preserved c =
+    let s = c.args in
+    let at = c.loop-i in
+    let v = c.of_word-v in
+    let vs = rows_of_words s.n s.list.now in
+    let h : at.i < length vs = omega (arith, rows_count s.n s.list.now) in (
+      search rules,
+      search rules,
+      product_more (capped s.n) vs at.i h (rows_in_lem at.w) (rows_in_lem c.follow.new.w) (val v.result) at.invariant.2 (v.ensures ∙ sym (rows_word s.n s.list.now at.i))
+          c.follow.ensures,
+    )
+
+pub returns : goal.returns
+returns c =
+    let s = c.args in
+    let at = c.loop-i in
+    let q = capped s.n in
+    let vs = rows_of_words s.n s.list.now in
+    let all = at.invariant.2 ∙ ap (product q) (take_all at.i vs (omega (arith, rows_count s.n s.list.now))) in
+    (c.from_rows.ensures.0, c.from_rows.ensures.1 ∙ ap (padded (q + q)) all ∙ padded_is (q + q) (product q vs) (product_length q vs))
