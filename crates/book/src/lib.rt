@@ -1,5 +1,7 @@
 // The book of the two-qubit actions: all 720 as a constant, looked up by code, and counted by length.
 // Not in the source.
+#![tactic(auto)]
+
 mod table;
 
 ghost use Rattle.std.specs.Prelude.{◌≡◌, ◌<◌, get_or};
