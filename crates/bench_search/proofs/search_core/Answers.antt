@@ -1,4 +1,4 @@
--- `search_core` answers the looks of the search, by `seen-looks`, and leaves the memory as the search does.
+-- `search_core` answers the looks of the search, by `seen_looks`, and leaves the memory as the search does.
 use Rattle.bench_search.proofs.Seen.{seen_looks}
 use borrow.Author.Rules.{rules}
 use Rattle.bench_search.proofs.search_core.Goals as goal

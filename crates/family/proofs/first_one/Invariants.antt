@@ -1,4 +1,4 @@
--- `first_one` passes the members with form zero with themselves, by `firstOne-skip`.
+-- `first_one` passes the members with form zero with themselves, by `first_one_skip`.
 use mathlib.Core.Path.{◌≡◌, refl, sym, ap, ◌∙◌}
 use mathlib.Core.List.{List}
 use Prim.Native.Nat.{ℕ, ◌-◌, ◌≤◌, ◌<◌}

@@ -1,4 +1,4 @@
--- `first_uneven` passes the members that are even with all behind them, by `firstUneven-skip`.
+-- `first_uneven` passes the members that are even with all behind them, by `first_uneven_skip`.
 use mathlib.Core.Path.{◌≡◌, refl, sym, ap, ◌∙◌}
 use mathlib.Core.List.{List}
 use Prim.Native.Nat.{ℕ, ◌+◌, ◌-◌, ◌≤◌, ◌<◌}

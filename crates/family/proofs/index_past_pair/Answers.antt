@@ -1,4 +1,4 @@
--- `index_past_pair` passes the first place and place j over, by `other-before` and `other-behind`.
+-- `index_past_pair` passes the first place and place j over, by `other_before` and `other_behind`.
 use Rattle.family.proofs.Others.{other_before, other_behind}
 use native.Mathlib.Omega.{arith}
 use borrow.Author.Rules.{rules}

@@ -1,4 +1,4 @@
--- `pair_rest` puts the others one by one over the members, and their form rows with them, by `rest-member` and `rest-row`.
+-- `pair_rest` puts the others one by one over the members, and their form rows with them, by `rest_member` and `rest_row`.
 use mathlib.Core.Path.{◌≡◌, refl, sym, ap, ◌∙◌}
 use mathlib.Core.List.{List, ◌++◌}
 use Prim.Native.Nat.{ℕ, ◌-◌, ◌≤◌, ◌<◌}

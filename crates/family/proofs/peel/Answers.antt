@@ -1,4 +1,4 @@
--- `peel` puts a vector into the list while a member is dropped for it, by `turn-peeled`, and ends in the simplex of the rest, by `family-rest`.
+-- `peel` puts a vector into the list while a member is dropped for it, by `turn_peeled`, and ends in the simplex of the rest, by `family_rest`.
 use mathlib.Core.Path.{◌≡◌, refl, sym, ap, ◌∙◌}
 use mathlib.Core.List.{List}
 use mathlib.Core.Logic.{⊎_elim}

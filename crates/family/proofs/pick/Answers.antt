@@ -1,4 +1,4 @@
--- `pick` takes the first of the two choices that is made, by `pick-of-one` and `pick-of-uneven`.
+-- `pick` takes the first of the two choices that is made, by `pick_of_one` and `pick_of_uneven`.
 use mathlib.Core.Path.{◌≡◌, sym, ap, ◌∙◌}
 use lib.ListN.{take}
 use Rattle.binar.specs.Bits.{◌⊕◌}

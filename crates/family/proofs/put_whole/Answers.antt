@@ -1,4 +1,4 @@
--- `put_whole` puts row after row into both, by `over-next` and `over-end`.
+-- `put_whole` puts row after row into both, by `over_next` and `over_end`.
 use mathlib.Core.Path.{◌≡◌, refl, sym, ◌∙◌}
 use mathlib.Core.List.{◌++◌}
 use Prim.Native.Nat.{◌-◌, ◌≤◌, ◌<◌}

@@ -1,4 +1,4 @@
--- `uneven_with` passes the members that are even with member i, by `unevenWith-skip`.
+-- `uneven_with` passes the members that are even with member i, by `uneven_with_skip`.
 use mathlib.Core.Path.{◌≡◌, refl, sym, ap, ap₂, ◌∙◌}
 use mathlib.Core.List.{List}
 use Prim.Native.Nat.{ℕ, ◌+◌, ◌-◌, ◌≤◌, ◌<◌}

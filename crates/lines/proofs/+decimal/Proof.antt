@@ -1,4 +1,4 @@
--- `decimal` writes the tens, then the last digit, by `tally-digit` and `tally-tens`.
+-- `decimal` writes the tens, then the last digit, by `tally_digit` and `tally_tens`.
 -- Assumes nothing.
 use mathlib.Core.Path.{sym, ap, ◌∙◌}
 use mathlib.Core.List.{List, [], ◌∷◌, ◌++◌}

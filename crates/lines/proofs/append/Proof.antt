@@ -1,4 +1,4 @@
--- `append` writes the bytes of the text in place, by `write-more`.
+-- `append` writes the bytes of the text in place, by `write_more`.
 -- Assumes nothing.
 use mathlib.Core.Path.{◌≡◌, refl}
 use mathlib.Core.List.{◌++◌}

@@ -1,4 +1,4 @@
--- `field` writes a space, then the number, by `cut-then`.
+-- `field` writes a space, then the number, by `cut_then`.
 -- Assumes nothing.
 use mathlib.Core.List.{[], ◌∷◌}
 use Rattle.lines.specs.Lines.{decimal, space}

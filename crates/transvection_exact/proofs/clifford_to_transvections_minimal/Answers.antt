@@ -1,4 +1,4 @@
--- `clifford_to_transvections_minimal` lends no memory, so by the clause `plainly` it replies as document 01 says; the rest is what holds of that reply, by `minimal-shortest`.
+-- `clifford_to_transvections_minimal` lends no memory, so by the clause `plainly` it replies as document 01 says; the rest is what holds of that reply, by `minimal_shortest`.
 use native.Mathlib.Omega.{arith}
 use Rattle.questions.proofs.Answered.{meets}
 use Rattle.transvection_exact.specs.Minimal.{minimal_reply}

@@ -1,4 +1,4 @@
--- `clifford_to_transvections_minimal_remembering` refuses by the first question that is answered no, by `remembering-early` and `remembering-refused`; else it answers what `searched` does, by `remembering-searched`.
+-- `clifford_to_transvections_minimal_remembering` refuses by the first question that is answered no, by `remembering_early` and `remembering_refused`; else it answers what `searched` does, by `remembering_searched`.
 use mathlib.Core.Path.{◌≡◌, refl, sym, ap, ap₂, ◌∙◌}
 use mathlib.Core.List.{List}
 use Prim.Native.Nat.{ℕ, ◌+◌, ◌≤◌}

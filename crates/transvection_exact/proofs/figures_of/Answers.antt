@@ -1,4 +1,4 @@
--- `figures_of` gives each case of the answer its number, its count and its looks, those of `figuresOf`.
+-- `figures_of` gives each case of the answer its number, its count and its looks, those of `figures_of_lem`.
 use mathlib.Core.Path.{◌≡◌, sym, ap}
 use Rattle.transvection_exact.specs.declared.Minimal.TheVariants.{Listed, TooManyQubits, WrongRowCount, RowTooWide, NotSymplectic, OutputTooShort, Spent}
 use Rattle.transvection_exact.specs.Answers.{figures_of_lem}

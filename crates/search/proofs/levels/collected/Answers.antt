@@ -1,4 +1,4 @@
--- `collected` puts the draw of each level, by `collect-draw` and `collect-next`.
+-- `collected` puts the draw of each level, by `collect_draw` and `collect_next`.
 use mathlib.Core.Path.{◌≡◌, refl, sym, ap, ◌∙◌}
 use mathlib.Core.List.{◌++◌}
 use Prim.Native.Nat.{◌+◌, ◌-◌, ◌≤◌, ◌<◌}
