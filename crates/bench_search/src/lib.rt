@@ -1,4 +1,6 @@
 // The search by C's conventions, for the bench driver.
+#![tactic(auto)]
+
 ghost use Rattle.std.specs.Prelude.{◌≡◌};
 ghost use Rattle.blocks.specs.Words.{over};
 ghost use Rattle.triangular.specs.Readings.{core_in};

@@ -1,5 +1,5 @@
 -- The two checks that the source makes of a bordered candidate: `validate` of the family, and `verifies_bordered_decomposition` of its list.
--- No code makes them and no contract reaches them: that a candidate passes wherever one is needed is a theorem (`always-passes`).
+-- No code makes them and no contract reaches them: that a candidate passes wherever one is needed is a theorem (`always_passes`).
 -- Assumes nothing.
 use Rattle.std.specs.Prelude.{Bool, true, false, ◌&&◌, not, List, [], ◌∷◌, ℕ, suc, eqb, length}
 use Rattle.std.proofs.Math.Option.{Option, none, some}

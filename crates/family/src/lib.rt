@@ -1,6 +1,8 @@
 // The bordered family of a core: members peeled while one is picked, then the simplex on the alternating rest.
 // In the source: transvection_exact.rs, `bordered_family`, `symplectic_simplex`.
 // The first d rows of `basis` are the members of a space, those of `forms` their form rows: each member times the core.
+#![tactic(auto)]
+
 ghost use Rattle.std.specs.Prelude.{◌≡◌, true, false, List, ℕ, ◌+◌, ◌-◌, ◌≤◌, ◌<◌, length, get_or, set, take, drop};
 ghost use Rattle.binar.specs.Bits.{select, ◌⊕◌, dot};
 ghost use Rattle.binar.specs.Rows.{width, val};

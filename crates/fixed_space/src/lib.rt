@@ -1,5 +1,7 @@
 // The fixed space: a basis of all vectors that an action leaves in place, laid into lent words.
 // In the source: transvection.rs, `clifford_fixed_space`.
+#![tactic(auto)]
+
 ghost use Rattle.std.specs.Prelude.{◌≡◌, ◌≤◌, length, drop};
 ghost use Rattle.binar.specs.Rows.{width};
 ghost use Rattle.blocks.specs.Words.{rows_in_lem, laid as laid_of};

@@ -1,5 +1,7 @@
 // Gate sequences: the action of a sequence of gates, laid into lent rows.
 // Not in the source.
+#![tactic(auto)]
+
 ghost use Rattle.std.specs.Prelude.{◌≡◌, true, map, ◌+◌, ◌<◌, ◌≤◌, length};
 ghost use Rattle.binar.specs.Bits.{select, bit};
 ghost use Rattle.binar.specs.Rows.{val, unit};

@@ -1,50 +1,36 @@
 -- A call that answers a listing meets its reply: at each question of the action, at the fifth, and where it lists.
 -- Assumes nothing.
 use mathlib.Core.Path.{◌≡◌, refl, sym, ap, ◌∙◌, subst}
-use mathlib.Core.List.{List, [], ◌∷◌}
-use Prim.Native.Nat.{ℕ, zero, suc, ◌≤◌, ◌<◌}
+use mathlib.Core.List.{List}
+use Prim.Native.Nat.{ℕ, suc, ◌≤◌, ◌<◌}
 use lib.ListN.{length}
-use types.Run.{OneOf, miss}
-use denote.Enum.Declared.{tag_of}
 use Rattle.blocks.specs.Words.{rows_of_words, laid}
 use Rattle.questions.specs.declared.Figures.{Figures}
 use Rattle.questions.specs.declared.Listing.{Listing}
 use Rattle.questions.specs.declared.Listing.TheVariants.{Listed, TooManyQubits, WrongRowCount, RowTooWide, NotSymplectic, OutputTooShort}
 use Rattle.questions.specs.Answers.{figures_of_lem}
 use Rattle.questions.specs.Replies.{Reply, nothing_listed_lem, listed, unless_refused, action_questions_lem, list_questions}
-use Rattle.questions.specs.contracts.Listing.{the_type}
 use Rattle.questions.proofs.Questions.{list_passed, list_short, list_refused}
 use Rattle.questions.proofs.Answered.{Meets, Holds, meets_refused, meets_answer}
 
--- what a test of the code has found: the case of a list, or another one
-abbrev pub Lists : Listing → Type 0
-Lists r = tag_of the_type r ≡ 0
-
+-- what the code finds where a listing is no list
 abbrev pub Unlisted : Listing → Type 0
-Unlisted r = OneOf (1 ∷ 2 ∷ 3 ∷ 4 ∷ 5 ∷ []) (tag_of the_type r)
+Unlisted r = (count : ℕ) → r ≡ Listed count → ⊥
 
--- the cases stand in the order of their numbers
-number_is : (r : Listing) → (figures_of_lem r).number ≡ tag_of the_type r
-number_is (Listed count) = refl
-number_is TooManyQubits = refl
-number_is WrongRowCount = refl
-number_is RowTooWide = refl
-number_is NotSymplectic = refl
-number_is OutputTooShort = refl
-
-listing_number : (r : Listing) (k : ℕ) → figures_of_lem r ≡ nothing_listed_lem k → k ≡ tag_of the_type r
-listing_number r k e = sym (ap (λ (t : Figures). t.number) e) ∙ number_is r
+listing_number : (r : Listing) (k : ℕ) → figures_of_lem r ≡ nothing_listed_lem k → k ≡ (figures_of_lem r).number
+listing_number r k e = sym (ap (λ (t : Figures). t.number) e)
 
 -- nothing is listed so far: every question was passed
-pub listing_passed : (r : Listing) (k q : ℕ) → figures_of_lem r ≡ nothing_listed_lem k → k ≡ q → Lists r → q ≡ 0
-listing_passed r k q e a l = sym a ∙ listing_number r k e ∙ l
+pub listing_passed : (r : Listing) (k q count : ℕ) → figures_of_lem r ≡ nothing_listed_lem k → k ≡ q → r ≡ Listed count → q ≡ 0
+listing_passed r k q count e a l = sym a ∙ listing_number r k e ∙ ap (λ (t : Listing). (figures_of_lem t).number) l
 
 pub refuses : (r : Listing) (q : ℕ) → figures_of_lem r ≡ nothing_listed_lem q → Unlisted r → (k : ℕ) × (q ≡ suc k)
-refuses r q e u = go q (listing_number r q e)
-  where
-    go : (p : ℕ) → p ≡ tag_of the_type r → (k : ℕ) × (p ≡ suc k)
-    go zero z = absurd (miss (1 ∷ 2 ∷ 3 ∷ 4 ∷ 5 ∷ []) 0 tt (subst (OneOf (1 ∷ 2 ∷ 3 ∷ 4 ∷ 5 ∷ [])) (sym z) u))
-    go (suc k) z = (k, refl)
+refuses (Listed count) q e u = absurd (u count refl)
+refuses TooManyQubits q e u = (0, listing_number TooManyQubits q e)
+refuses WrongRowCount q e u = (1, listing_number WrongRowCount q e)
+refuses RowTooWide q e u = (2, listing_number RowTooWide q e)
+refuses NotSymplectic q e u = (3, listing_number NotSymplectic q e)
+refuses OutputTooShort q e u = (4, listing_number OutputTooShort q e)
 
 -- a call that asks the questions of a list call, with so many output words, and then lists; and what holds of its reply
 pub record ListCall (P : List ℕ → Figures → Type 0) (n : ℕ) (rows : List ℕ) (wanted : ℕ) (list out : List ℕ) (reply : Reply) : Type 0 where

@@ -16,7 +16,7 @@ use Rattle.binar.proofs.Widths.{pow_bound}
 use Rattle.binar.proofs.Sums.{zero_sum, sum_zero, sum_lt}
 use Rattle.binar.proofs.Dots.{dot_comm}
 use Rattle.binar.proofs.Ones.{dot_unit, lowest_one}
-use Rattle.blocks.specs.Matrices.{times, units, All}
+use Rattle.blocks.specs.Matrices.{times, units}
 use Rattle.blocks.proofs.All.{All-by_index}
 use Rattle.blocks.proofs.Products.{times_sum, times_unit, times_high, times_lt}
 use Rattle.blocks.proofs.Units.{units_length, units_at}

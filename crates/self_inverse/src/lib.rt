@@ -3,6 +3,8 @@
 // The residue of such an action is a symmetric matrix M. A list of commuting turns plays the action where the vectors v, each as a column
 // times itself as a row, add up to M. So rows are peeled off M while its diagonal has a one; what is left alternates, and pairs of rows
 // are peeled off, for which the last vector makes way for three.
+#![tactic(auto)]
+
 ghost use Rattle.std.specs.Prelude.{◌≡◌, List, ◌++◌, true, ℕ, suc, ◌+◌, ◌^◌, ◌≤◌, ◌<◌, eqb, length, take};
 ghost use Rattle.binar.specs.Rows.{val, width};
 ghost use Rattle.blocks.specs.Matrices.{times, All};

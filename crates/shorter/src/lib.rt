@@ -1,5 +1,7 @@
 // The shorter of two lent lists whose product is a lent action.
 // Not in the source.
+#![tactic(auto)]
+
 ghost use Rattle.std.specs.Prelude.{◌≡◌};
 ghost use Rattle.blocks.specs.Words.{rows_of_words};
 ghost use Rattle.symplectic.specs.Sizes.{capped};

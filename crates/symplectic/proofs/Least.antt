@@ -7,7 +7,7 @@ use Prim.Native.Nat.{ℕ, ◌+◌, ◌^◌, ◌≤◌, ◌<◌}
 use native.Mathlib.Nat.{le_antisymm}
 use lib.ListN.{length}
 use Rattle.blocks.specs.Matrices.{All}
-use Rattle.symplectic.specs.Turns.{product, symplectic}
+use Rattle.symplectic.specs.Turns.{symplectic}
 use Rattle.symplectic.specs.NoneShorter.{LeastLength}
 use Rattle.symplectic.proofs.Products.{product_length, product_lt}
 use Rattle.symplectic.proofs.Layers.{product_symplectic}

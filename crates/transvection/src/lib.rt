@@ -1,5 +1,7 @@
 // The greedy list: turns that undo an action, each found in the matrix I + F, laid in reverse into lent words.
 // In the source: transvection.rs, `clifford_to_transvections`, `symplectic_residue_matrix`, `next_transvection`.
+#![tactic(auto)]
+
 ghost use Rattle.std.specs.Prelude.{◌≡◌, reverse, ◌+◌, ◌*◌, ◌^◌, ◌≤◌, ◌<◌, length, take};
 ghost use Rattle.binar.specs.Bits.{◌⊕◌};
 ghost use Rattle.binar.specs.Rows.{width, val};

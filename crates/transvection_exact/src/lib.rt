@@ -1,5 +1,7 @@
 // The minimal list: as few turns as any list of the action has, laid into lent words.
 // In the source: transvection_exact.rs, `minimal_decomposition`, `clifford_to_transvections_minimal`.
+#![tactic(auto)]
+
 ghost use Rattle.std.specs.Prelude.{◌≡◌};
 ghost use Rattle.blocks.specs.Matrices.{matmul};
 ghost use Rattle.blocks.specs.Words.{rows_in_lem, over};

@@ -1,6 +1,8 @@
 // Nothing runs here: the two-qubit actions, each a code of 16 bits, and the book of all 720 with their least lengths. Its code is the
 // crate book.
 // Not in the source.
+#![tactic(auto)]
+
 
 // An entry of the book: the code of an action, and its least length.
 #[derive(Clone, Copy)]

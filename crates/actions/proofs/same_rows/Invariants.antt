@@ -1,4 +1,4 @@
--- `same_rows` compares row by row, by `same-onward`; actions on different qubit counts differ by `rows-differ`.
+-- `same_rows` compares row by row, by `same_onward`; actions on different qubit counts differ by `rows_differ`.
 use mathlib.Core.Path.{◌≡◌, refl, sym, ap₂, ◌∙◌}
 use Prim.Native.Nat.{◌+◌, ◌-◌, ◌≤◌}
 use native.Mathlib.Omega.{arith}

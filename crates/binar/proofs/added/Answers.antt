@@ -1,5 +1,5 @@
 -- `added` sums where the bit is set.
-use Rattle.std.proofs.Common.{sym, ap, ◌∙◌, rules}
+use Rattle.std.proofs.Common.{sym, ap, ◌∙◌}
 use Rattle.binar.specs.Bits.{select, ◌⊕◌}
 use Rattle.binar.specs.Rows.{val}
 use Rattle.binar.proofs.Sums.{sum_zero}

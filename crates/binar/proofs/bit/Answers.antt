@@ -1,4 +1,4 @@
--- `bit` answers the bit of its row: below the width by its words, past it by `past-bit`.
+-- `bit` answers the bit of its row: below the width by its words, past it by `past_bit`.
 use Rattle.std.proofs.Common.{sym, rules}
 use Rattle.binar.proofs.Widths.{past_bit}
 use Rattle.binar.specs.Rows.{val}

@@ -1,4 +1,4 @@
--- `dot` answers the parity of the shared ones, by `dot-ones`.
+-- `dot` answers the parity of the shared ones, by `dot_ones`.
 use Rattle.std.proofs.Common.{sym}
 use Rattle.binar.proofs.Dots.{dot_ones}
 use Rattle.binar.specs.Rows.{val}

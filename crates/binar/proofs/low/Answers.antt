@@ -1,4 +1,4 @@
--- `low` keeps the columns below k: below the width by `power`, past it by `past-low`.
+-- `low` keeps the columns below k: below the width by `power`, past it by `past_low`.
 use Rattle.std.proofs.Common.{◌%◌, sym, ap, arith, pow_pos, rules}
 use Rattle.binar.proofs.Widths.{past_low}
 use Rattle.binar.specs.Rows.{val}

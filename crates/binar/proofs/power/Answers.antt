@@ -1,5 +1,5 @@
 -- `power` answers a power of 2, by `shl_exact`.
-use Rattle.std.proofs.Common.{◌^◌, ◌∙◌, one-mul, arith, shl_exact, rules}
+use Rattle.std.proofs.Common.{◌^◌, ◌∙◌, one-mul, arith, shl_exact}
 use Rattle.binar.proofs.power.Goals as goal
 
 pub returns : goal.returns

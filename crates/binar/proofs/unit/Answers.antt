@@ -1,4 +1,4 @@
--- `unit` makes a unit row: below the width by `power`, past it by `unit-past`.
+-- `unit` makes a unit row: below the width by `power`, past it by `unit_past`.
 use Rattle.std.proofs.Common.{sym, rules}
 use Rattle.binar.proofs.Widths.{unit_past}
 use Rattle.binar.specs.Rows.{val, row_bound, unit}

@@ -1,4 +1,4 @@
--- `weight` answers the count of ones, by `weight-ones`; its cast fits by `ones-le`.
+-- `weight` answers the count of ones, by `weight_ones`; its cast fits by `ones-le`.
 use Rattle.std.proofs.Common.{sym, arith, rules}
 use lib.Count.{ones-le}
 use Rattle.binar.proofs.Dots.{weight_ones}

@@ -1,4 +1,4 @@
--- `turnlist_fixed_space` answers as `clifford_fixed_space`, and leaves a refused call's numbers as they were, by `lent-counted`.
+-- `turnlist_fixed_space` answers as `clifford_fixed_space`, and leaves a refused call's numbers as they were, by `lent_counted`.
 -- Assumes nothing.
 use native.Mathlib.Omega.{arith}
 use Rattle.fixed_space.specs.FixedSpace.{fixed_reply}

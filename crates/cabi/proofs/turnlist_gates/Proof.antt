@@ -1,4 +1,4 @@
--- `turnlist_gates` answers as `gate_action`, and leaves a refused call's numbers as they were, by `lent-counted`.
+-- `turnlist_gates` answers as `gate_action`, and leaves a refused call's numbers as they were, by `lent_counted`.
 -- Assumes nothing.
 use native.Mathlib.Omega.{arith}
 use Rattle.questions.specs.Replies.{Rebuilds}

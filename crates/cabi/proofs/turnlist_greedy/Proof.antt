@@ -1,4 +1,4 @@
--- `turnlist_greedy` answers as `clifford_to_transvections`, and leaves a refused call's numbers as they were, by `lent-counted`.
+-- `turnlist_greedy` answers as `clifford_to_transvections`, and leaves a refused call's numbers as they were, by `lent_counted`.
 -- Assumes nothing.
 use native.Mathlib.Omega.{arith}
 use Rattle.transvection.specs.Greedy.{greedy_reply}

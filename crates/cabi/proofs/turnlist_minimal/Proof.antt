@@ -1,4 +1,4 @@
--- `turnlist_minimal` answers as `clifford_to_transvections_minimal`, and leaves a refused call's numbers as they were, by `lent-drawn`.
+-- `turnlist_minimal` answers as `clifford_to_transvections_minimal`, and leaves a refused call's numbers as they were, by `lent_drawn`.
 -- Assumes nothing.
 use mathlib.Core.Path.{◌∙◌}
 use Rattle.transvection_exact.specs.Answers.{figures_of_lem}

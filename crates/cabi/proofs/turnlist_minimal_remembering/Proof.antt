@@ -1,4 +1,4 @@
--- `turnlist_minimal_remembering` answers as the call with a memory, and leaves a refused call's numbers as they were, by `lent-remembering`.
+-- `turnlist_minimal_remembering` answers as the call with a memory, and leaves a refused call's numbers as they were, by `lent_remembering`.
 -- Assumes nothing.
 use Rattle.transvection_exact.specs.Answers.{figures_of_lem}
 use Rattle.cabi.proofs.Lent.{lent_remembering}

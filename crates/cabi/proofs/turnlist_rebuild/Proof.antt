@@ -1,4 +1,4 @@
--- `turnlist_rebuild` answers as `rebuild`, and leaves a refused call's numbers as they were, by `lent-counted`.
+-- `turnlist_rebuild` answers as `rebuild`, and leaves a refused call's numbers as they were, by `lent_counted`.
 -- Assumes nothing.
 use native.Mathlib.Omega.{arith}
 use Rattle.blocks.specs.Words.{rows_of_words}

@@ -1,4 +1,4 @@
--- `turnlist_self_inverse` answers as `clifford_to_transvections_self_inverse`, and leaves a refused call's number as it was, by `lent-self-inverse`.
+-- `turnlist_self_inverse` answers as `clifford_to_transvections_self_inverse`, and leaves a refused call's number as it was, by `lent_self_inverse`.
 -- Assumes nothing.
 use Rattle.cabi.proofs.Lent.{lent_self_inverse}
 use borrow.Author.Rules.{rules}

@@ -1,4 +1,4 @@
--- `turnlist_shorter` answers as `choose`, and leaves a refused call's number as it was, by `lent-shorter`.
+-- `turnlist_shorter` answers as `choose`, and leaves a refused call's number as it was, by `lent_shorter`.
 -- Assumes nothing.
 use Rattle.cabi.proofs.Lent.{lent_shorter}
 use borrow.Author.Rules.{rules}

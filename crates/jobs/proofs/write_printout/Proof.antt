@@ -1,4 +1,4 @@
--- `write_printout` is safe: the page lies within the lent bytes, by `page-answered`.
+-- `write_printout` is safe: the page lies within the lent bytes, by `page_answered`.
 -- Assumes nothing.
 use mathlib.Core.Path.{sym}
 use Prim.Native.Nat.{◌≤◌}

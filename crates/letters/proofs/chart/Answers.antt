@@ -1,4 +1,4 @@
--- `chart` answers in each of its cases what the two letters pair to, by `chart-bits`.
+-- `chart` answers in each of its cases what the two letters pair to, by `chart_bits`.
 use mathlib.Core.Path.{◌≡◌, sym, ap, ap₂, ◌∙◌}
 use Rattle.letters.specs.declared.Letter.{Letter}
 use Rattle.letters.specs.declared.Letter.TheVariants.{I, X, Y, Z}

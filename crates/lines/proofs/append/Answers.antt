@@ -1,4 +1,4 @@
--- `append` writes the bytes of the text in place, by `write-more`.
+-- `append` writes the bytes of the text in place, by `write_more`.
 use mathlib.Core.Path.{◌≡◌, refl}
 use native.Mathlib.Omega.{arith}
 use lib.ListN.{length, get_or, length-set}

@@ -1,4 +1,4 @@
--- `append` writes the bytes of the text in place, by `write-more`.
+-- `append` writes the bytes of the text in place, by `write_more`.
 use mathlib.Core.Path.{◌≡◌}
 use mathlib.Core.List.{◌++◌}
 use Prim.Native.Nat.{◌+◌, ◌-◌, ◌≤◌}

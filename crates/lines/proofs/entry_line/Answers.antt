@@ -1,4 +1,4 @@
--- `entry_line` writes the parts of a line one behind another, by `cut-four` and `cut-next`.
+-- `entry_line` writes the parts of a line one behind another, by `cut_four` and `cut_next`.
 use mathlib.Core.Path.{◌≡◌, sym, ap, ◌∙◌}
 use mathlib.Core.List.{List, [], ◌∷◌, ◌++◌}
 use Prim.Native.Nat.{ℕ}

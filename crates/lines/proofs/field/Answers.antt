@@ -1,4 +1,4 @@
--- `field` writes a space, then the number, by `cut-then`.
+-- `field` writes a space, then the number, by `cut_then`.
 use mathlib.Core.List.{[], ◌∷◌}
 use Rattle.lines.specs.Lines.{decimal, space}
 use Rattle.lines.specs.Bytes.{line_room, bytes_of}

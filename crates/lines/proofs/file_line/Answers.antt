@@ -1,4 +1,4 @@
--- `file_line` writes its parts one behind another, by `cut-next`; they fit, by `file-fits`.
+-- `file_line` writes its parts one behind another, by `cut_next`; they fit, by `file_fits`.
 use mathlib.Core.Path.{◌≡◌, ap, ◌∙◌}
 use mathlib.Core.List.{List, [], ◌∷◌, ◌++◌}
 use Prim.Native.Nat.{ℕ, ◌^◌, ◌<◌}

@@ -1,4 +1,4 @@
--- `front` writes the entry number, a space and the name, by `cut-next` and `cut-then`.
+-- `front` writes the entry number, a space and the name, by `cut_next` and `cut_then`.
 use mathlib.Core.Path.{◌≡◌, ap₂, ◌∙◌}
 use mathlib.Core.List.{List, [], ◌∷◌, ◌++◌}
 use Prim.Native.Nat.{ℕ}

@@ -1,4 +1,4 @@
--- `lay` lays the bytes one by one, by `byte-laid` and `bytes-laid`.
+-- `lay` lays the bytes one by one, by `byte_laid` and `bytes_laid`.
 use mathlib.Core.Path.{◌≡◌, refl, ◌∙◌}
 use native.Mathlib.Omega.{arith}
 use lib.ListN.{length, length-set}

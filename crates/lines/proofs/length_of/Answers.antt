@@ -1,4 +1,4 @@
--- `length_of` is the count, or the room where the count is above it, by `bytes-length`.
+-- `length_of` is the count, or the room where the count is above it, by `bytes_length`.
 use mathlib.Core.Path.{sym, ◌∙◌}
 use borrow.Author.Rules.{rules}
 use Rattle.lines.proofs.Cuts.{bytes_length}

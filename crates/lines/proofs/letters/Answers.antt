@@ -1,4 +1,4 @@
--- `letters` writes the letters of a vector in place, by `write-more` and `spelling-at`.
+-- `letters` writes the letters of a vector in place, by `write_more` and `spelling_at`.
 use mathlib.Core.Path.{◌≡◌, sym, ap, ap₂, ◌∙◌}
 use Prim.Native.Nat.{ℕ, ◌-◌, ◌<◌, min}
 use native.Mathlib.Omega.{arith}

@@ -1,4 +1,4 @@
--- `letters` writes the letters of a vector in place, by `write-more` and `spelling-at`.
+-- `letters` writes the letters of a vector in place, by `write_more` and `spelling_at`.
 use mathlib.Core.Path.{◌≡◌}
 use mathlib.Core.List.{◌++◌}
 use Prim.Native.Nat.{◌+◌, ◌-◌, ◌≤◌}

@@ -1,4 +1,4 @@
--- `load` adds the touched qubits: the tally and the load of the rest make the load, by `load-next`; it fits, by `touched-within`.
+-- `load` adds the touched qubits: the tally and the load of the rest make the load, by `load_next`; it fits, by `touched_within`.
 use mathlib.Core.Path.{◌≡◌, ap, ◌∙◌}
 use Prim.Native.Nat.{◌≤◌, ◌<◌}
 use native.Mathlib.Omega.{arith}

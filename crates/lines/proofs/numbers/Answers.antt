@@ -1,4 +1,4 @@
--- `numbers` writes four fields, one behind another, by `cut-next`.
+-- `numbers` writes four fields, one behind another, by `cut_next`.
 use mathlib.Core.Path.{◌≡◌, ap, ◌∙◌}
 use mathlib.Core.List.{List, ◌++◌}
 use Prim.Native.Nat.{ℕ}

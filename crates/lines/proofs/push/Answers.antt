@@ -1,4 +1,4 @@
--- `push` writes behind the bytes, by `push-more`; a full line stays, by `push-full`.
+-- `push` writes behind the bytes, by `push_more`; a full line stays, by `push_full`.
 use borrow.Author.Rules.{rules}
 use Rattle.lines.specs.Bytes.{bytes_of}
 use Rattle.lines.proofs.Cuts.{push_more, push_full}

@@ -1,4 +1,4 @@
--- `spelled` writes the vectors one by one: those written are the first i, by `spelled-next`.
+-- `spelled` writes the vectors one by one: those written are the first i, by `spelled_next`.
 use mathlib.Core.Path.{◌≡◌, sym, ap, ◌∙◌}
 use mathlib.Core.List.{List, [], ◌∷◌, ◌++◌, append-nil}
 use Prim.Native.Nat.{ℕ, ◌<◌}

@@ -1,4 +1,4 @@
--- `touched` counts the ones of x OR z, by `touched-weight`.
+-- `touched` counts the ones of x OR z, by `touched_weight`.
 use mathlib.Core.Path.{ap, ◌∙◌}
 use Prim.Native.Nat.{ℕ, ◌%◌, ◌^◌}
 use lib.Bits.{bit_or}

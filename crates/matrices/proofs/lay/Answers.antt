@@ -1,10 +1,9 @@
 -- `lay` lays the rows one by one, by `laid_next` and `laid_end`.
-use mathlib.Core.Path.{◌≡◌, refl, ◌∙◌}
-use mathlib.Core.List.{◌++◌}
-use Prim.Native.Nat.{◌-◌, ◌≤◌, ◌<◌}
-use lib.ListN.{length, take, drop, length-set}
+use mathlib.Core.Path.{refl, ◌∙◌}
+use Prim.Native.Nat.{◌<◌}
+use lib.ListN.{length, length-set}
 use Rattle.blocks.proofs.Values.{laid_next, laid_end}
-use Rattle.blocks.specs.Words.{words_of_rows, rows_in_lem}
+use Rattle.blocks.specs.Words.{rows_in_lem}
 use native.Mathlib.Omega.{arith}
 use borrow.Author.Rules.{rules}
 use Rattle.matrices.proofs.lay.Goals as goal

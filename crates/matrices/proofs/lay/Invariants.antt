@@ -1,12 +1,9 @@
 -- `lay` lays the rows one by one, by `laid_next` and `laid_end`.
-use mathlib.Core.Path.{◌≡◌, refl, ◌∙◌}
+use mathlib.Core.Path.{◌≡◌}
 use mathlib.Core.List.{◌++◌}
-use Prim.Native.Nat.{◌-◌, ◌≤◌, ◌<◌}
-use lib.ListN.{length, take, drop, length-set}
-use Rattle.blocks.proofs.Values.{laid_next, laid_end}
+use Prim.Native.Nat.{◌-◌, ◌≤◌}
+use lib.ListN.{length, take, drop}
 use Rattle.blocks.specs.Words.{words_of_rows, rows_in_lem}
-use native.Mathlib.Omega.{arith}
-use borrow.Author.Rules.{rules}
 use Rattle.matrices.proofs.lay.Given as goal
 
 abbrev pub invariant-loop-i : goal.invariant-loop-i

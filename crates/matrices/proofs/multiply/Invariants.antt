@@ -1,14 +1,10 @@
 -- `multiply` lays the rows of the product one by one, by `laid_next` and `laid_end`.
-use mathlib.Core.Path.{◌≡◌, refl, sym, ap, ◌∙◌}
+use mathlib.Core.Path.{◌≡◌}
 use mathlib.Core.List.{◌++◌}
-use Prim.Native.Nat.{ℕ, ◌-◌, ◌≤◌, ◌<◌}
-use lib.ListN.{length, take, drop, length-set}
-use Rattle.blocks.proofs.Products.{matmul_length, row_times}
-use Rattle.blocks.proofs.Values.{laid_next, laid_end}
-use Rattle.blocks.specs.Matrices.{times, matmul}
+use Prim.Native.Nat.{◌-◌, ◌≤◌}
+use lib.ListN.{length, take, drop}
+use Rattle.blocks.specs.Matrices.{matmul}
 use Rattle.blocks.specs.Words.{words_of_rows, rows_in_lem}
-use native.Mathlib.Omega.{arith}
-use borrow.Author.Rules.{rules}
 use Rattle.matrices.proofs.multiply.Given as goal
 
 abbrev pub invariant-loop-i : goal.invariant-loop-i

@@ -1,8 +1,7 @@
--- `put_front` puts row after row, by `over-next` and `over-end`.
-use mathlib.Core.Path.{◌≡◌, refl, sym, ◌∙◌}
-use mathlib.Core.List.{◌++◌}
-use Prim.Native.Nat.{◌-◌, ◌≤◌, ◌<◌}
-use lib.ListN.{length, take, drop, length-take}
+-- `put_front` puts row after row, by `over_next` and `over_end`.
+use mathlib.Core.Path.{refl, sym, ◌∙◌}
+use Prim.Native.Nat.{◌<◌}
+use lib.ListN.{take, length-take}
 use lib.Seq.{get_or-take}
 use Rattle.blocks.proofs.Overs.{over_next, over_end}
 use Rattle.blocks.specs.Words.{rows_in_lem}

@@ -1,13 +1,9 @@
--- `put_front` puts row after row, by `over-next` and `over-end`.
-use mathlib.Core.Path.{◌≡◌, refl, sym, ◌∙◌}
+-- `put_front` puts row after row, by `over_next` and `over_end`.
+use mathlib.Core.Path.{◌≡◌}
 use mathlib.Core.List.{◌++◌}
-use Prim.Native.Nat.{◌-◌, ◌≤◌, ◌<◌}
-use lib.ListN.{length, take, drop, length-take}
-use lib.Seq.{get_or-take}
-use Rattle.blocks.proofs.Overs.{over_next, over_end}
+use Prim.Native.Nat.{◌-◌, ◌≤◌}
+use lib.ListN.{length, take, drop}
 use Rattle.blocks.specs.Words.{rows_in_lem}
-use native.Mathlib.Omega.{arith}
-use borrow.Author.Rules.{rules}
 use Rattle.matrices.proofs.put_front.Given as goal
 
 abbrev pub invariant-loop-i : goal.invariant-loop-i

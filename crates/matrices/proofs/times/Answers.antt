@@ -1,4 +1,4 @@
--- `times` adds the rows of the ones of c, lowest first: what is added and what is left make the whole, by `times-next`.
+-- `times` adds the rows of the ones of c, lowest first: what is added and what is left make the whole, by `times_next`.
 use mathlib.Core.Bool.{true, false}
 use lib.Pow.{pow_pos}
 use native.Mathlib.Nat.{mod-lt}
@@ -10,11 +10,11 @@ use Rattle.blocks.proofs.Products.{lowest_row, times_next, times_done, times_low
 use Rattle.binar.proofs.Ones.{unit_is}
 use Rattle.binar.proofs.Widths.{val_lt}
 use Rattle.binar.proofs.Sums.{zero_sum}
-use Rattle.binar.specs.Rows.{lowest, val, width, row_bound}
+use Rattle.binar.specs.Rows.{lowest, val, width}
 use Rattle.blocks.specs.Words.{rows_in_lem}
 use Rattle.blocks.specs.Matrices.{times}
 use Rattle.binar.specs.Bits.{◌⊕◌}
-use borrow.Author.Tests.{eqb-true, not-true, not-false}
+use borrow.Author.Tests.{eqb-true}
 use borrow.Author.Rules.{rules}
 use Rattle.matrices.proofs.times.Goals as goal
 use Rattle.matrices.proofs.times.Goals.{After-sum-bits, In-loop-bits}

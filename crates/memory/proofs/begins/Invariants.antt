@@ -1,4 +1,4 @@
--- `begins` compares row by row, by `same-onward`.
+-- `begins` compares row by row, by `same_onward`.
 use mathlib.Core.Path.{◌≡◌, refl, sym, ap₂, ◌∙◌}
 use Prim.Native.Nat.{◌-◌, ◌≤◌, ◌<◌}
 use lib.Dec.{eqb}

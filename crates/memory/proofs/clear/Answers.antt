@@ -1,4 +1,4 @@
--- `clear` puts the zeros one by one, by `over-next` and `over-whole`.
+-- `clear` puts the zeros one by one, by `over_next` and `over_whole`.
 use mathlib.Core.Path.{◌≡◌, refl, sym, ◌∙◌}
 use mathlib.Core.List.{◌++◌}
 use Prim.Native.Nat.{ℕ, ◌-◌, ◌≤◌, ◌<◌}

@@ -15,6 +15,7 @@ use Rattle.memory.specs.Entries.{room_in, held_in}
 use native.Mathlib.Omega.{arith}
 use borrow.Author.Rules.{rules}
 use Rattle.memory.proofs.holds.Goals as goal
+use Rattle.memory.proofs.holds.Goals.{then-memory-at+else-begins, else-memory-at}
 
 -- at the start all the words are left
 loop_start : (ws rs : List ℕ) → held_in (length ws / 65) rs (drop 0 ws) ≡ held_in (room_in ws) rs ws
@@ -70,7 +71,10 @@ loop-left-preserved c =
     let on = passed (rows_in_lem s.basis.now) s.memory.now at.at at.left at.invariant.2 (omega arith) in (
       omega (arith, at.invariant.0),
       at.invariant.1,
-      ⊎_elim (λ w. on (inr (sym w.2.ensures ∙ w.3.left))) (λ w. on (inl (λ e. w.left (e ∙ sym at.invariant.1)))) c.if-memory-at.branch,
+      elim c.if-memory-at.branch [
+        | then-memory-at+else-begins w ↦ on (inr (sym w.begins.ensures ∙ w.if-begins.false))
+        | else-memory-at w ↦ on (inl (λ e. w.if-memory-at.false (e ∙ sym at.invariant.1)))
+      ],
     )
 
 pub returns : goal.returns

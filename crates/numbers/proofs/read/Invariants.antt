@@ -1,10 +1,7 @@
 -- `read` reads from the last byte: what is read is the number of the bytes from `i` on, below 256 to their count.
 use mathlib.Core.Path.{◌≡◌}
-use Prim.Native.Nat.{suc, ◌+◌, ◌-◌, ◌^◌, ◌≤◌, ◌<◌}
-use native.Mathlib.Omega.{arith}
-use borrow.Author.Rules.{rules}
+use Prim.Native.Nat.{◌+◌, ◌-◌, ◌^◌, ◌≤◌, ◌<◌}
 use Rattle.numbers.specs.Numbers.{number}
-use Rattle.numbers.proofs.Numbers.{reading_starts, reading_ends, number_more, bound_more, seven_bytes}
 use Rattle.numbers.proofs.read.Given as goal
 
 abbrev pub invariant-loop-i : goal.invariant-loop-i

@@ -1,4 +1,4 @@
--- `answer_line` prints what the call of its name answers and leaves, by `line-left`.
+-- `answer_line` prints what the call of its name answers and leaves, by `line_left`.
 -- Assumes nothing.
 use mathlib.Core.Path.{◌≡◌, sym, ◌∙◌}
 use Prim.Native.Nat.{◌+◌, ◌*◌}

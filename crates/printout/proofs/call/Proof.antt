@@ -1,4 +1,4 @@
--- `call` answers and leaves what the call of its name does, by `call-named`.
+-- `call` answers and leaves what the call of its name does, by `call_named`.
 -- Assumes nothing.
 use mathlib.Core.Path.{◌≡◌}
 use borrow.Author.Rules.{rules}

@@ -1,4 +1,4 @@
--- `fill_page` lays the lines one by one: the page is filled up to line k, by `filled-laid`, and is whole where no line more fits.
+-- `fill_page` lays the lines one by one: the page is filled up to line k, by `filled_laid`, and is whole where no line more fits.
 -- Assumes nothing.
 use mathlib.Core.Path.{◌≡◌, sym, ◌∙◌}
 use mathlib.Core.List.{[]}

@@ -1,5 +1,5 @@
--- `gate_rows` lends our six gates and the first 2n of its blank words, and holds what the call answers and leaves, by `gates-loaded` and `gates-refused`. With our
--- six gates the call's reply is that of document 01's table, by `six-as-table`.
+-- `gate_rows` lends our six gates and the first 2n of its blank words, and holds what the call answers and leaves, by `gates_loaded` and `gates_refused`. With our
+-- six gates the call's reply is that of document 01's table, by `six_as_table`.
 -- Assumes nothing.
 use mathlib.Core.Path.{◌≡◌, ap, ◌∙◌}
 use mathlib.Core.List.{List}

@@ -1,4 +1,4 @@
--- `line_at` gives line k, of entry k / 2, by `file-named`.
+-- `line_at` gives line k, of entry k / 2, by `file_named`.
 -- Assumes nothing.
 use mathlib.Core.Path.{◌∙◌}
 use Prim.Native.Nat.{◌/◌}

@@ -1,4 +1,4 @@
--- `line_of` is the line of the call or of a refusal, by `line-passed` and `line_refused`.
+-- `line_of` is the line of the call or of a refusal, by `line_passed` and `line_refused`.
 -- Assumes nothing.
 use mathlib.Core.Path.{◌≡◌, ◌∙◌}
 use Prim.Native.Nat.{◌≤◌}

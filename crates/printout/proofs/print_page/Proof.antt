@@ -1,4 +1,4 @@
--- `print_page` refuses a file by the first question that is answered no, else fills the page, by `page-refused` and `page-past`.
+-- `print_page` refuses a file by the first question that is answered no, else fills the page, by `page_refused` and `page_past`.
 -- Assumes nothing.
 use mathlib.Core.Path.{◌≡◌, sym, ap, ◌∙◌}
 use native.Mathlib.Omega.{arith}

@@ -1,4 +1,4 @@
--- `refusal_line` prints a refusal whole, by `line-figures`.
+-- `refusal_line` prints a refusal whole, by `line_figures`.
 -- Assumes nothing.
 use mathlib.Core.Path.{refl, ◌∙◌}
 use mathlib.Core.List.{[]}

@@ -1,4 +1,4 @@
--- `figures_of` gives each case of the answer its number, its count and its looks, those of `figuresOf`.
+-- `figures_of` gives each case of the answer its number, its count and its looks, those of `figures_of_lem`.
 use mathlib.Core.Path.{◌≡◌, sym, ap}
 use Rattle.questions.specs.declared.Listing.TheVariants.{Listed, TooManyQubits, WrongRowCount, RowTooWide, NotSymplectic, OutputTooShort}
 use Rattle.questions.specs.Answers.{figures_of_lem}

@@ -1,4 +1,4 @@
--- `words_fit` passes the rows one by one, by `all-next`; one that is too wide fails the test, by `all-fails`.
+-- `words_fit` passes the rows one by one, by `all_next`; one that is too wide fails the test, by `all_fails`.
 use mathlib.Core.Path.{◌≡◌, refl, sym, ap₂, ◌∙◌}
 use mathlib.Core.Bool.{Bool, true}
 use Prim.Native.Nat.{ℕ, ◌+◌, ◌-◌, ◌^◌, ◌≤◌, ◌<◌}

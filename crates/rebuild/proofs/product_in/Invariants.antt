@@ -1,4 +1,4 @@
--- `product_in` makes the turns of the vectors in order, by `product-more`, from the identity.
+-- `product_in` makes the turns of the vectors in order, by `product_more`, from the identity.
 use mathlib.Core.Path.{◌≡◌, sym, ap, ◌∙◌}
 use Prim.Native.Nat.{◌+◌, ◌-◌, ◌≤◌, ◌<◌}
 use native.Mathlib.Omega.{arith}

@@ -1,4 +1,4 @@
--- `product_of` lends as many rows as the product has, by `part-rows`.
+-- `product_of` lends as many rows as the product has, by `part_rows`.
 use Prim.Native.Nat.{◌+◌, ◌≤◌}
 use mathlib.Core.Path.{◌∙◌}
 use native.Mathlib.Omega.{arith}

@@ -1,4 +1,4 @@
--- `by_column` leaves all as it is where no row has the column, by `both-none`; else it exchanges, sweeps and writes the pivot, by `column-next`.
+-- `by_column` leaves all as it is where no row has the column, by `both_none`; else it exchanges, sweeps and writes the pivot, by `column_next`.
 use mathlib.Core.Path.{refl, sym, ap₂, ◌∙◌}
 use mathlib.Core.List.{zip}
 use Prim.Native.Nat.{◌+◌, ◌≤◌, ◌<◌}

@@ -1,4 +1,4 @@
--- `by_columns` does column after column, by `columns-step`; where every row has its pivot the others change nothing, by `columns-full`.
+-- `by_columns` does column after column, by `columns_step`; where every row has its pivot the others change nothing, by `columns_full`.
 use mathlib.Core.Path.{◌≡◌, refl, sym, ap, ◌∙◌}
 use mathlib.Core.List.{zip}
 use Prim.Native.Nat.{ℕ, ◌-◌, ◌≤◌}

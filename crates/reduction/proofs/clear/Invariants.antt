@@ -1,4 +1,4 @@
--- `clear` adds to row after row of both, by `cleared-next` and `cleared-end`.
+-- `clear` adds to row after row of both, by `cleared_next` and `cleared_end`.
 use mathlib.Core.Path.{◌≡◌, refl, ap, ap₂, ◌∙◌}
 use mathlib.Core.List.{◌++◌, zip}
 use Prim.Native.Nat.{ℕ, ◌-◌, ◌≤◌, ◌<◌}

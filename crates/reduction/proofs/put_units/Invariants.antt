@@ -1,4 +1,4 @@
--- `put_units` puts the unit rows one by one, by `units-at`.
+-- `put_units` puts the unit rows one by one, by `units_at`.
 use mathlib.Core.Path.{◌≡◌, refl, sym, ap, ◌∙◌}
 use mathlib.Core.List.{◌++◌}
 use Prim.Native.Nat.{◌-◌, ◌≤◌, ◌<◌}

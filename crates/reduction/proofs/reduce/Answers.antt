@@ -1,4 +1,4 @@
--- `reduce` starts from the unit rows, by `begun`; what is left is the reduction, by `reduced-in`.
+-- `reduce` starts from the unit rows, by `begun`; what is left is the reduction, by `reduced_in`.
 use mathlib.Core.Path.{sym, ap, ◌∙◌}
 use lib.ListN.{length, take}
 use Rattle.blocks.specs.Matrices.{units}

@@ -1,5 +1,5 @@
--- `row_reduce_with_transform` reduces the front of both, by `fitting-front`; what came back stands over the rest, by `put_back` and `pivots-over`, and the promises of
--- the pivots hold of it, by `fitting-pivoted`.
+-- `row_reduce_with_transform` reduces the front of both, by `fitting_front`; what came back stands over the rest, by `put_back` and `pivots_over`, and the promises of
+-- the pivots hold of it, by `fitting_pivoted`.
 use mathlib.Core.Path.{◌≡◌, sym, ap, ◌∙◌}
 use mathlib.Core.List.{List, map}
 use Prim.Native.Nat.{ℕ, min}

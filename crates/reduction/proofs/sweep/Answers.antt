@@ -1,4 +1,4 @@
--- `sweep` clears every row and puts row p back, by `swept-is`.
+-- `sweep` clears every row and puts row p back, by `swept_is`.
 use mathlib.Core.Path.{ap₂, ◌∙◌}
 use mathlib.Core.List.{zip}
 use Rattle.blocks.specs.Words.{rows_in_lem}

@@ -1,4 +1,4 @@
--- `dots` sets column after column, by `dots-next`.
+-- `dots` sets column after column, by `dots_next`.
 use mathlib.Core.Path.{◌≡◌, sym, ap, ap₂, ◌∙◌}
 use mathlib.Core.Bool.{Bool}
 use Prim.Native.Nat.{ℕ, ◌-◌, ◌≤◌, ◌<◌}

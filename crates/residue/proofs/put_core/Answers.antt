@@ -1,4 +1,4 @@
--- `put_core` puts the dots of row after row, by `over-next` and `over-end`.
+-- `put_core` puts the dots of row after row, by `over_next` and `over_end`.
 use mathlib.Core.Path.{◌≡◌, refl, sym, ap, ◌∙◌}
 use mathlib.Core.List.{◌++◌}
 use Prim.Native.Nat.{◌-◌, ◌≤◌, ◌<◌}

@@ -1,4 +1,4 @@
--- `put_plus` puts the rows of I + F one by one, by `plus-from-at`, as far as there is room.
+-- `put_plus` puts the rows of I + F one by one, by `plus_from_at`, as far as there is room.
 use mathlib.Core.Path.{◌≡◌, refl, sym, ap, ap₂, ◌∙◌}
 use mathlib.Core.List.{List, ◌++◌}
 use Prim.Native.Nat.{ℕ, ◌+◌, ◌-◌, ◌≤◌, ◌<◌, min}

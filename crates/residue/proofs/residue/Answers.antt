@@ -1,4 +1,4 @@
--- `residue` puts the rows of I + F from the lower half on, by `residue-over`.
+-- `residue` puts the rows of I + F from the lower half on, by `residue_over`.
 use mathlib.Core.Path.{◌≡◌, sym, ◌∙◌}
 use Rattle.actions.specs.Actions.{qubits, matrix}
 use Rattle.actions.proofs.Arrays.{qubits_capped}

@@ -1,4 +1,4 @@
--- `residue_core_in` reduces the residue, all of it by `reduced-whole`, and puts the front of what is left, by `basis-end` and `core-end`.
+-- `residue_core_in` reduces the residue, all of it by `reduced_whole`, and puts the front of what is left, by `basis_end` and `core_end`.
 use mathlib.Core.Path.{◌≡◌, refl, sym, ap, ◌∙◌}
 use mathlib.Core.List.{List}
 use Prim.Native.Nat.{ℕ, ◌+◌, ◌≤◌, min}

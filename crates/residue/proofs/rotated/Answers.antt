@@ -1,4 +1,4 @@
--- `rotated` steps k rows down, or back up, by `lower-at` and `upper-at`.
+-- `rotated` steps k rows down, or back up, by `lower_at` and `upper_at`.
 use mathlib.Core.Path.{ap, ◌∙◌}
 use Prim.Native.Nat.{◌-◌}
 use native.Mathlib.Omega.{arith}

@@ -1,4 +1,4 @@
--- `gate_fits` passes the turns one by one, by `all-next`; one that does not fit fails the test, by `all-fails`.
+-- `gate_fits` passes the turns one by one, by `all_next`; one that does not fit fails the test, by `all_fails`.
 use mathlib.Core.Path.{◌≡◌, refl, sym, ap, ◌∙◌}
 use mathlib.Core.Bool.{true}
 use mathlib.Core.List.{List}

@@ -1,4 +1,4 @@
--- `gates_fit` passes the gates one by one, by `all-next`; one that does not fit fails the test, by `all-fails`.
+-- `gates_fit` passes the gates one by one, by `all_next`; one that does not fit fails the test, by `all_fails`.
 use mathlib.Core.Path.{◌≡◌, refl, sym, ap, ◌∙◌, subst}
 use mathlib.Core.Bool.{true}
 use Prim.Native.Nat.{◌+◌, ◌-◌, ◌≤◌, ◌<◌}

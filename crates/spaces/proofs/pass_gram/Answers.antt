@@ -1,4 +1,4 @@
--- `pass_gram` puts each row behind its level as `gramAt` says.
+-- `pass_gram` puts each row behind its level as `gram_at` says.
 use mathlib.Core.Path.{◌≡◌, refl, sym, ap, ◌∙◌}
 use mathlib.Core.List.{map}
 use Prim.Native.Nat.{ℕ, ◌+◌, ◌-◌, ◌≤◌, ◌<◌}

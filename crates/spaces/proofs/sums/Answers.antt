@@ -1,4 +1,4 @@
--- `sums` puts the sum of the first rows behind them, by `summed-more`.
+-- `sums` puts the sum of the first rows behind them, by `summed_more`.
 use mathlib.Core.Path.{◌≡◌, refl, sym, ap, ap₂, ◌∙◌}
 use mathlib.Core.List.{map}
 use Prim.Native.Nat.{◌-◌, ◌^◌, ◌≤◌, ◌<◌}

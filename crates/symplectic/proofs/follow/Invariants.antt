@@ -1,21 +1,12 @@
--- `follow` puts the turned rows over the rows, one by one, by `over-next`.
-use mathlib.Core.Path.{◌≡◌, refl, sym, ap, ◌∙◌}
+-- `follow` puts the turned rows over the rows, one by one, by `over_next`.
+use mathlib.Core.Path.{◌≡◌}
 use mathlib.Core.List.{◌++◌}
-use Prim.Native.Nat.{ℕ, ◌-◌, ◌≤◌, ◌<◌}
-use native.Mathlib.Nat.{le_refl}
-use native.Mathlib.Omega.{arith}
+use Prim.Native.Nat.{◌-◌, ◌≤◌}
 use lib.ListN.{length, take, drop}
 use Rattle.binar.specs.Rows.{val}
 use Rattle.blocks.specs.Words.{rows_in_lem}
-use Rattle.blocks.proofs.Overs.{over_next}
 use Rattle.symplectic.specs.Sizes.{capped}
-use Rattle.symplectic.specs.Turns.{turn, followed}
-use Rattle.symplectic.specs.inner.Vectors.{swap_halves_lem}
-use Rattle.symplectic.proofs.Pairings.{swap_turn}
-use Rattle.symplectic.proofs.Products.{followed_length, followed_at}
-use Rattle.symplectic.proofs.Sizes.{capped_le}
-use Rattle.blocks.proofs.Overs.{over_left, over_whole}
-use borrow.Author.Rules.{rules}
+use Rattle.symplectic.specs.Turns.{followed}
 use Rattle.symplectic.proofs.follow.Given as goal
 
 abbrev pub invariant-loop-i : goal.invariant-loop-i

@@ -1,7 +1,7 @@
--- `pairs_as_basis` passes the rows before row i one by one, by `basis-next`; a pair that differs from the basis fails the test, by `basis-fails`.
+-- `pairs_as_basis` passes the rows before row i one by one, by `basis_next`; a pair that differs from the basis fails the test, by `basis_fails`.
 use mathlib.Core.Path.{◌≡◌, refl, sym, ap, ap₂, ◌∙◌}
-use mathlib.Core.Bool.{true, beq}
-use Prim.Native.Nat.{ℕ, ◌+◌, ◌-◌, ◌≤◌, ◌<◌, min}
+use mathlib.Core.Bool.{beq}
+use Prim.Native.Nat.{ℕ, ◌+◌, ◌<◌, min}
 use native.Mathlib.Omega.{arith}
 use lib.ListN.{length, get_or}
 use borrow.Author.Tests.{not-true, not-false}

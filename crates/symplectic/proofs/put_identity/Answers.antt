@@ -1,9 +1,8 @@
--- `put_identity` puts the unit rows over the rows, one by one, by `over-next` and `over-end`.
-use mathlib.Core.Path.{◌≡◌, refl, sym, ◌∙◌}
-use mathlib.Core.List.{◌++◌}
-use Prim.Native.Nat.{◌+◌, ◌-◌, ◌≤◌, ◌<◌}
+-- `put_identity` puts the unit rows over the rows, one by one, by `over_next` and `over_end`.
+use mathlib.Core.Path.{refl, sym, ◌∙◌}
+use Prim.Native.Nat.{◌+◌, ◌<◌}
 use native.Mathlib.Omega.{arith}
-use lib.ListN.{length, take, drop}
+use lib.ListN.{length}
 use Rattle.binar.specs.Rows.{width}
 use Rattle.binar.proofs.Ones.{unit_is}
 use Rattle.blocks.specs.Matrices.{units}

@@ -1,18 +1,11 @@
--- `put_identity` puts the unit rows over the rows, one by one, by `over-next` and `over-end`.
-use mathlib.Core.Path.{◌≡◌, refl, sym, ◌∙◌}
+-- `put_identity` puts the unit rows over the rows, one by one, by `over_next` and `over_end`.
+use mathlib.Core.Path.{◌≡◌}
 use mathlib.Core.List.{◌++◌}
-use Prim.Native.Nat.{◌+◌, ◌-◌, ◌≤◌, ◌<◌}
-use native.Mathlib.Omega.{arith}
+use Prim.Native.Nat.{◌+◌, ◌-◌, ◌≤◌}
 use lib.ListN.{length, take, drop}
-use Rattle.binar.specs.Rows.{width}
-use Rattle.binar.proofs.Ones.{unit_is}
 use Rattle.blocks.specs.Matrices.{units}
 use Rattle.blocks.specs.Words.{rows_in_lem}
-use Rattle.blocks.proofs.Units.{units_length, units_at}
-use Rattle.blocks.proofs.Overs.{over_next, over_end}
 use Rattle.symplectic.specs.Sizes.{capped}
-use Rattle.symplectic.proofs.Sizes.{capped_le}
-use borrow.Author.Rules.{rules}
 use Rattle.symplectic.proofs.put_identity.Given as goal
 
 abbrev pub invariant-loop-i : goal.invariant-loop-i

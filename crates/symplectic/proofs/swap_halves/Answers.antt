@@ -1,4 +1,4 @@
--- `swap_halves` puts the x bits above the z bits, by `swap-rows`.
+-- `swap_halves` puts the x bits above the z bits, by `swap_rows`.
 use mathlib.Core.Path.{ap, ap₂, ◌∙◌}
 use Prim.Native.Nat.{ℕ, ◌*◌, ◌%◌, ◌^◌}
 use Rattle.binar.specs.Bits.{◌⊕◌}

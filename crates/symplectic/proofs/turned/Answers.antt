@@ -4,7 +4,6 @@ use mathlib.Core.Bool.{Bool}
 use Rattle.binar.specs.Bits.{◌⊕◌, select}
 use Rattle.binar.specs.Rows.{val}
 use Rattle.binar.proofs.Sums.{sum_zero}
-use borrow.Author.Rules.{rules}
 use Rattle.symplectic.proofs.turned.Goals as goal
 
 pub returns-then-dot : goal.returns-then-dot

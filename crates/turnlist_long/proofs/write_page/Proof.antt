@@ -1,4 +1,4 @@
--- `write_page` is safe: the page lies within the lent bytes, and has no more lines than a file has bytes, by `page-answered`.
+-- `write_page` is safe: the page lies within the lent bytes, and has no more lines than a file has bytes, by `page_answered`.
 -- Assumes nothing.
 use mathlib.Core.Path.{sym}
 use Prim.Native.Nat.{◌+◌, ◌≤◌}
