@@ -1,5 +1,4 @@
 -- `decimal` writes the tens, then the last digit, by `tally_digit` and `tally_tens`.
--- Assumes nothing.
 use Rattle.std.proofs.Common.{ℕ, ◌+◌, ◌%◌, ◌∙◌, List, [], ◌∷◌, ◌++◌, take, sym, ap, rules}
 use Rattle.lines.specs.Lines.{decimal as decimal_of}
 use Rattle.lines.specs.Bytes.{line_room, bytes_of}

@@ -1,5 +1,4 @@
 -- The tens of a number are fewer.
--- Assumes nothing.
 use Rattle.lines.specs.inner.Tallies.{tallied}
 use Rattle.lines.proofs.+decimal.Given as goal
 

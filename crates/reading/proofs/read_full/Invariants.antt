@@ -1,5 +1,4 @@
 -- What was read lies within the lent bytes.
--- Assumes nothing.
 use Rattle.std.proofs.Common.{length, ◌-◌, ◌≤◌}
 use Rattle.reading.proofs.read_full.Given as goal
 
