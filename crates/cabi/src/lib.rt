@@ -1,6 +1,8 @@
 // The calls by C's conventions: each returns 0, or the number of the first question that is answered no, and then leaves every lent
 // word as it was, but for a lent memory at 6. include/turnlist.h says the same to C.
 // Not in the source.
+#![tactic(auto)]
+
 ghost use Rattle.std.specs.Prelude.{◌≡◌, ◌*◌, ◌≤◌};
 ghost use Rattle.blocks.specs.Words.{rows_of_words};
 ghost use Rattle.questions.specs.Replies.{Replays, Shortest, Rebuilds};

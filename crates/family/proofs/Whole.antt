@@ -9,7 +9,6 @@ use native.Mathlib.Omega.{arith}
 use lib.ListN.{length}
 use Rattle.binar.specs.Bits.{◌⊻◌, select, ◌⊕◌}
 use Rattle.binar.proofs.Sums.{bxor_self}
-use Rattle.blocks.specs.Matrices.{All}
 use Rattle.blocks.proofs.All.{All-map}
 use Rattle.linear.specs.VectorSpace.{scale}
 use Rattle.linear.specs.Span.{InSpan, Indep}

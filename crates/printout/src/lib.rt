@@ -1,5 +1,7 @@
 // The printout of a job file, page by page: the minimal list and the greedy list of each entry's action.
 // Not in the source.
+#![tactic(auto)]
+
 mod greedy;
 mod minimal;
 

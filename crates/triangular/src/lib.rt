@@ -2,7 +2,6 @@
 // In the source: transvection_exact.rs, `is_alternating`, `SpanVectors`, `right_orthogonal_complement`, `triangularize_subspace`.
 #![tactic(auto)]
 
-
 // How a search ends.
 #[derive(Clone, Copy)]
 pub enum Ending {

@@ -1,13 +1,13 @@
 -- `from_words` writes the words over zero rows, one by one, by `rows_more`.
 use mathlib.Core.Path.{◌≡◌, sym, ap, ap₂, ◌∙◌}
-use mathlib.Core.List.{List, ◌++◌}
-use Prim.Native.Nat.{ℕ, ◌+◌, ◌-◌, ◌≤◌, ◌<◌}
+use mathlib.Core.List.{List}
+use Prim.Native.Nat.{ℕ, ◌+◌, ◌<◌}
 use native.Mathlib.Omega.{arith}
-use lib.ListN.{length, take, drop, replicate}
+use lib.ListN.{length, take, replicate}
 use Rattle.blocks.specs.Words.{rows_of_words}
 use Rattle.blocks.proofs.Values.{rows_count, rows_word}
 use Rattle.symplectic.specs.Sizes.{most_rows, capped}
-use Rattle.actions.specs.Actions.{vals, qubits, matrix}
+use Rattle.actions.specs.Actions.{qubits, matrix}
 use Rattle.symplectic.proofs.Sizes.{capped_le}
 use Rattle.actions.proofs.Arrays.{vals_replicate, rows_more, padded_rows}
 use borrow.Author.Rules.{rules}

@@ -1,16 +1,11 @@
 -- `from_words` writes the words over zero rows, one by one, by `rows_more`.
-use mathlib.Core.Path.{◌≡◌, sym, ap, ap₂, ◌∙◌}
-use mathlib.Core.List.{List, ◌++◌}
-use Prim.Native.Nat.{ℕ, ◌+◌, ◌-◌, ◌≤◌, ◌<◌}
-use native.Mathlib.Omega.{arith}
-use lib.ListN.{length, take, drop, replicate}
+use mathlib.Core.Path.{◌≡◌}
+use mathlib.Core.List.{◌++◌}
+use Prim.Native.Nat.{◌-◌, ◌≤◌}
+use lib.ListN.{take, drop, replicate}
 use Rattle.blocks.specs.Words.{rows_of_words}
-use Rattle.blocks.proofs.Values.{rows_count, rows_word}
-use Rattle.symplectic.specs.Sizes.{most_rows, capped}
-use Rattle.actions.specs.Actions.{vals, qubits, matrix}
-use Rattle.symplectic.proofs.Sizes.{capped_le}
-use Rattle.actions.proofs.Arrays.{vals_replicate, rows_more, padded_rows}
-use borrow.Author.Rules.{rules}
+use Rattle.symplectic.specs.Sizes.{most_rows}
+use Rattle.actions.specs.Actions.{vals}
 use Rattle.actions.proofs.from_words.Given as goal
 
 abbrev pub invariant-loop-i : goal.invariant-loop-i

@@ -1,14 +1,11 @@
 -- `same_rows` compares row by row, by `same_onward`; actions on different qubit counts differ by `rows_differ`.
 use mathlib.Core.Path.{◌≡◌, refl, sym, ap₂, ◌∙◌}
-use Prim.Native.Nat.{◌+◌, ◌-◌, ◌≤◌}
+use Prim.Native.Nat.{◌+◌}
 use native.Mathlib.Omega.{arith}
 use lib.Dec.{eqb}
-use lib.ListN.{length, get_or, drop}
-use borrow.Author.Tests.{not-true, not-false}
+use lib.ListN.{length, get_or}
 use Rattle.blocks.proofs.Values.{unmapped}
-use Rattle.symplectic.specs.Sizes.{most_rows}
 use Rattle.actions.specs.Actions.{qubits, matrix}
-use Rattle.symplectic.specs.Matches.{same_rows}
 use Rattle.actions.proofs.Arrays.{qubits_le, matrix_length, matrix_get, qubits_capped}
 use Rattle.symplectic.proofs.Matches.{rows_differ, same_end, same_onward, same_stopped}
 use borrow.Author.Rules.{rules}

@@ -1,11 +1,9 @@
 -- `store` lays the rows one by one, by `laid_next` and `laid_end`.
 use mathlib.Core.Path.{◌≡◌, refl, ◌∙◌, sym}
-use mathlib.Core.List.{◌++◌}
-use Prim.Native.Nat.{◌+◌, ◌-◌, ◌≤◌, ◌<◌}
+use Prim.Native.Nat.{◌+◌, ◌<◌}
 use native.Mathlib.Omega.{arith}
-use lib.ListN.{length, take, drop, length-set}
+use lib.ListN.{length, length-set}
 use Rattle.blocks.proofs.Values.{laid_next, laid_end, unmapped}
-use Rattle.blocks.specs.Words.{words_of_rows}
 use Rattle.symplectic.specs.Sizes.{most_rows}
 use Rattle.actions.specs.Actions.{qubits, matrix}
 use Rattle.actions.proofs.Arrays.{qubits_le, matrix_length, matrix_get, qubits_capped}

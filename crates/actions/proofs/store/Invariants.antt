@@ -1,15 +1,11 @@
 -- `store` lays the rows one by one, by `laid_next` and `laid_end`.
-use mathlib.Core.Path.{◌≡◌, refl, ◌∙◌, sym}
+use mathlib.Core.Path.{◌≡◌}
 use mathlib.Core.List.{◌++◌}
-use Prim.Native.Nat.{◌+◌, ◌-◌, ◌≤◌, ◌<◌}
-use native.Mathlib.Omega.{arith}
-use lib.ListN.{length, take, drop, length-set}
-use Rattle.blocks.proofs.Values.{laid_next, laid_end, unmapped}
+use Prim.Native.Nat.{◌-◌, ◌≤◌}
+use lib.ListN.{length, take, drop}
 use Rattle.blocks.specs.Words.{words_of_rows}
 use Rattle.symplectic.specs.Sizes.{most_rows}
 use Rattle.actions.specs.Actions.{qubits, matrix}
-use Rattle.actions.proofs.Arrays.{qubits_le, matrix_length, matrix_get, qubits_capped}
-use borrow.Author.Rules.{rules}
 use Rattle.actions.proofs.store.Given as goal
 
 abbrev pub invariant-loop-i : goal.invariant-loop-i

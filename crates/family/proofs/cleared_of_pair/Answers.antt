@@ -3,7 +3,6 @@ use mathlib.Core.Path.{ap, ◌∙◌}
 use Prim.Native.Nat.{ℕ}
 use Rattle.binar.specs.Bits.{select, ◌⊕◌}
 use Rattle.binar.specs.Rows.{val}
-use borrow.Author.Rules.{rules}
 use Rattle.family.proofs.cleared_of_pair.Goals as goal
 
 pub returns : goal.returns

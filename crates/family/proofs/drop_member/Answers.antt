@@ -1,8 +1,8 @@
 -- `drop_member` moves the members behind member j up, each changed as the complement asks, and their form rows with them, by the laws of Drops.
 use mathlib.Core.Path.{◌≡◌, refl, ◌∙◌}
-use mathlib.Core.List.{List, ◌++◌}
-use Prim.Native.Nat.{ℕ, suc, ◌+◌, ◌-◌, ◌≤◌, ◌<◌}
-use lib.ListN.{length, get_or, take, drop}
+use mathlib.Core.List.{List}
+use Prim.Native.Nat.{ℕ, suc, ◌+◌, ◌<◌}
+use lib.ListN.{length, get_or, take}
 use Rattle.binar.specs.Bits.{dot}
 use Rattle.binar.specs.Rows.{val}
 use Rattle.blocks.specs.Matrices.{matmul}

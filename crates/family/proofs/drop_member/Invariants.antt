@@ -1,20 +1,13 @@
 -- `drop_member` moves the members behind member j up, each changed as the complement asks, and their form rows with them, by the laws of Drops.
-use mathlib.Core.Path.{◌≡◌, refl, ◌∙◌}
+use mathlib.Core.Path.{◌≡◌}
 use mathlib.Core.List.{List, ◌++◌}
-use Prim.Native.Nat.{ℕ, suc, ◌+◌, ◌-◌, ◌≤◌, ◌<◌}
-use lib.ListN.{length, get_or, take, drop}
+use Prim.Native.Nat.{ℕ, ◌-◌, ◌≤◌}
+use lib.ListN.{length, take, drop}
 use Rattle.binar.specs.Bits.{dot}
 use Rattle.binar.specs.Rows.{val}
 use Rattle.blocks.specs.Matrices.{matmul}
 use Rattle.blocks.specs.Words.{rows_in_lem}
-use Rattle.blocks.proofs.Overs.{over_next, over_end}
-use Rattle.blocks.proofs.Products.{matmul_length}
 use Rattle.triangular.specs.Spaces.{complement}
-use Rattle.blocks.proofs.Overs.{over_left}
-use Rattle.family.proofs.Drops as drops
-use Rattle.family.proofs.Members.{fit_length}
-use native.Mathlib.Omega.{arith}
-use borrow.Author.Rules.{rules}
 use Rattle.family.proofs.drop_member.Given as goal
 
 abbrev pub invariant-loop-n : goal.invariant-loop-n

@@ -1,7 +1,7 @@
 -- `first_dot` passes the members that f has no dot with, by `below_more`.
 use mathlib.Core.Path.{◌≡◌, sym, ap, ◌∙◌}
 use mathlib.Core.Bool.{false}
-use Prim.Native.Nat.{ℕ, ◌-◌, ◌≤◌, ◌<◌}
+use Prim.Native.Nat.{ℕ, ◌≤◌}
 use lib.ListN.{get_or}
 use borrow.Author.Count.{below_more}
 use Rattle.binar.specs.Bits.{dot}

@@ -1,14 +1,11 @@
 -- `first_dot` passes the members that f has no dot with, by `below_more`.
-use mathlib.Core.Path.{◌≡◌, sym, ap, ◌∙◌}
+use mathlib.Core.Path.{◌≡◌}
 use mathlib.Core.Bool.{false}
 use Prim.Native.Nat.{ℕ, ◌-◌, ◌≤◌, ◌<◌}
 use lib.ListN.{get_or}
-use borrow.Author.Count.{below_more}
 use Rattle.binar.specs.Bits.{dot}
 use Rattle.binar.specs.Rows.{val}
 use Rattle.blocks.specs.Words.{rows_in_lem}
-use native.Mathlib.Omega.{arith}
-use borrow.Author.Rules.{rules}
 use Rattle.family.proofs.first_dot.Given as goal
 
 abbrev pub invariant-loop-i : goal.invariant-loop-i

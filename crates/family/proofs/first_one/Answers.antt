@@ -1,12 +1,10 @@
 -- `first_one` passes the members with form zero with themselves, by `first_one_skip`.
 use mathlib.Core.Path.{◌≡◌, refl, sym, ap, ◌∙◌}
-use mathlib.Core.List.{List}
-use Prim.Native.Nat.{ℕ, ◌-◌, ◌≤◌, ◌<◌}
-use lib.ListN.{length, get_or, take, drop}
+use Prim.Native.Nat.{◌≤◌, ◌<◌}
+use lib.ListN.{length, get_or, take}
 use lib.Seq.{length-take-le}
 use Rattle.binar.specs.Bits.{◌⊕◌}
 use Rattle.binar.specs.Rows.{val}
-use Rattle.blocks.specs.Matrices.{matmul}
 use Rattle.blocks.specs.Words.{rows_in_lem}
 use Rattle.residue.specs.Residue.{form}
 use Rattle.symplectic.specs.Picks.{map_some, first_one_lem}

@@ -1,8 +1,8 @@
 -- `pair_rest` puts the others one by one over the members, and their form rows with them, by `rest_member` and `rest_row`.
 use mathlib.Core.Path.{◌≡◌, refl, sym, ap, ◌∙◌}
-use mathlib.Core.List.{List, ◌++◌}
-use Prim.Native.Nat.{ℕ, ◌-◌, ◌≤◌, ◌<◌}
-use lib.ListN.{length, get_or, take, drop, length-set}
+use mathlib.Core.List.{List}
+use Prim.Native.Nat.{ℕ, ◌-◌, ◌<◌}
+use lib.ListN.{length, get_or, take, length-set}
 use lib.Seq.{length-take-le}
 use Rattle.binar.specs.Bits.{select, ◌⊕◌, dot}
 use Rattle.binar.specs.Rows.{val}

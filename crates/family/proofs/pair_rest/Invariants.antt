@@ -1,23 +1,12 @@
 -- `pair_rest` puts the others one by one over the members, and their form rows with them, by `rest_member` and `rest_row`.
-use mathlib.Core.Path.{◌≡◌, refl, sym, ap, ◌∙◌}
+use mathlib.Core.Path.{◌≡◌}
 use mathlib.Core.List.{List, ◌++◌}
-use Prim.Native.Nat.{ℕ, ◌-◌, ◌≤◌, ◌<◌}
-use lib.ListN.{length, get_or, take, drop, length-set}
-use lib.Seq.{length-take-le}
-use Rattle.binar.specs.Bits.{select, ◌⊕◌, dot}
-use Rattle.binar.specs.Rows.{val}
-use Rattle.blocks.specs.Matrices.{times, matmul}
+use Prim.Native.Nat.{ℕ, ◌-◌, ◌≤◌}
+use lib.ListN.{length, take, drop}
+use Rattle.blocks.specs.Matrices.{matmul}
 use Rattle.blocks.specs.Words.{rows_in_lem}
-use Rattle.blocks.proofs.Overs.{over_next}
-use Rattle.blocks.proofs.Products.{matmul_length}
 use Rattle.residue.specs.Residue.{form}
-use Rattle.family.specs.inner.Parts.{others_of, pair_rest_lem}
-use Rattle.family.proofs.Behind.{put_all}
-use Rattle.blocks.proofs.Overs.{over_left}
-use Rattle.family.proofs.Members.{member_is, row_is, member_form, fit_length}
-use Rattle.family.proofs.Others.{others_length, rest_length, rest_member, rest_row}
-use native.Mathlib.Omega.{arith}
-use borrow.Author.Rules.{rules}
+use Rattle.family.specs.inner.Parts.{pair_rest_lem}
 use Rattle.family.proofs.pair_rest.Given as goal
 
 abbrev pub invariant-loop-n : goal.invariant-loop-n

@@ -2,7 +2,7 @@
 use mathlib.Core.Path.{◌≡◌, refl, sym, ap, ◌∙◌}
 use mathlib.Core.List.{List}
 use mathlib.Core.Logic.{⊎_elim}
-use mathlib.Core.Option.{Option, some}
+use mathlib.Core.Option.{some}
 use Prim.Native.Nat.{ℕ, suc, ◌+◌, ◌-◌, ◌≤◌, ◌<◌, zero-le}
 use native.Mathlib.Nat.{eq-or-lt_of_le}
 use lib.ListN.{length, take, length-set}
@@ -18,12 +18,12 @@ use Rattle.residue.specs.Residue.{form}
 use Rattle.symplectic.specs.Picks.{map_some, pick}
 use Rattle.triangular.specs.Spaces.{complement}
 use Rattle.family.specs.declared.Picked.TheVariants.{Nothing}
-use Rattle.family.specs.Family.{symplectic_simplex_lem, bordered_family_lem, vectors}
+use Rattle.family.specs.Family.{symplectic_simplex_lem}
 use Rattle.family.specs.inner.Parts.{if_made, behind}
 use Rattle.family.proofs.Behind.{over_all}
 use Rattle.family.proofs.Drops.{drop_length}
 use Rattle.family.proofs.Members.{picked_vector, picked_nothing, fit_length}
-use Rattle.family.proofs.Peeling.{Left, family_begun, family_rest, turn_stuck, turn_peeled}
+use Rattle.family.proofs.Peeling.{family_begun, family_rest, turn_stuck, turn_peeled}
 use native.Mathlib.Omega.{arith}
 use borrow.Author.Rules.{rules}
 use Rattle.family.proofs.peel.Goals as goal

@@ -1,31 +1,15 @@
 -- `peel` puts a vector into the list while a member is dropped for it, by `turn_peeled`, and ends in the simplex of the rest, by `family_rest`.
-use mathlib.Core.Path.{◌≡◌, refl, sym, ap, ◌∙◌}
+use mathlib.Core.Path.{◌≡◌}
 use mathlib.Core.List.{List}
-use mathlib.Core.Logic.{⊎_elim}
-use mathlib.Core.Option.{Option, some}
-use Prim.Native.Nat.{ℕ, suc, ◌+◌, ◌-◌, ◌≤◌, ◌<◌, zero-le}
-use native.Mathlib.Nat.{eq-or-lt_of_le}
-use lib.ListN.{length, take, length-set}
-use lib.Seq.{length-take-le, get_or-take}
-use Rattle.binar.specs.Bits.{◌⊕◌, dot}
-use Rattle.binar.specs.Rows.{val}
-use Rattle.blocks.specs.Matrices.{times, matmul}
+use mathlib.Core.Option.{Option}
+use Prim.Native.Nat.{ℕ, ◌+◌}
+use lib.ListN.{length, take}
+use Rattle.blocks.specs.Matrices.{matmul}
 use Rattle.blocks.specs.Words.{rows_in_lem}
-use Rattle.blocks.proofs.Overs.{over_length}
-use Rattle.blocks.proofs.Products.{matmul_length}
-use Rattle.blocks.proofs.Values.{set_next}
 use Rattle.residue.specs.Residue.{form}
-use Rattle.symplectic.specs.Picks.{map_some, pick}
-use Rattle.triangular.specs.Spaces.{complement}
-use Rattle.family.specs.declared.Picked.TheVariants.{Nothing}
-use Rattle.family.specs.Family.{symplectic_simplex_lem, bordered_family_lem, vectors}
-use Rattle.family.specs.inner.Parts.{if_made, behind}
-use Rattle.family.proofs.Behind.{over_all}
-use Rattle.family.proofs.Drops.{drop_length}
-use Rattle.family.proofs.Members.{picked_vector, picked_nothing, fit_length}
-use Rattle.family.proofs.Peeling.{Left, family_begun, family_rest, turn_stuck, turn_peeled}
-use native.Mathlib.Omega.{arith}
-use borrow.Author.Rules.{rules}
+use Rattle.symplectic.specs.Picks.{map_some}
+use Rattle.family.specs.Family.{bordered_family_lem, vectors}
+use Rattle.family.proofs.Peeling.{Left}
 use Rattle.family.proofs.peel.Given as goal
 
 -- the vectors of a space's family

@@ -6,7 +6,6 @@ use lib.ListN.{get_or, set}
 use Rattle.binar.specs.Bits.{select, ◌⊕◌, dot}
 use Rattle.binar.specs.Rows.{val}
 use Rattle.blocks.specs.Words.{rows_in_lem}
-use borrow.Author.Rules.{rules}
 use Rattle.family.proofs.put_cleared.Goals as goal
 
 pub returns : goal.returns

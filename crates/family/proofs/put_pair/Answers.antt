@@ -6,7 +6,6 @@ use lib.ListN.{set}
 use Rattle.binar.specs.Bits.{◌⊕◌}
 use Rattle.binar.specs.Rows.{val}
 use Rattle.blocks.specs.Words.{rows_in_lem}
-use borrow.Author.Rules.{rules}
 use Rattle.family.proofs.put_pair.Goals as goal
 
 pub returns : goal.returns

@@ -1,8 +1,7 @@
 -- `put_whole` puts row after row into both, by `over_next` and `over_end`.
-use mathlib.Core.Path.{◌≡◌, refl, sym, ◌∙◌}
-use mathlib.Core.List.{◌++◌}
-use Prim.Native.Nat.{◌-◌, ◌≤◌, ◌<◌}
-use lib.ListN.{length, take, drop}
+use mathlib.Core.Path.{refl, sym, ◌∙◌}
+use Prim.Native.Nat.{◌<◌}
+use lib.ListN.{take}
 use lib.Seq.{get_or-take, length-take-le}
 use Rattle.binar.proofs.Ones.{unit_is}
 use Rattle.blocks.specs.Matrices.{units}

@@ -1,26 +1,17 @@
 -- `symplectic_simplex` puts the vectors of pair after pair behind those in front, and the last sum at the end, by the laws of Simplices.
-use mathlib.Core.Path.{◌≡◌, refl, ap, ◌∙◌}
+use mathlib.Core.Path.{◌≡◌}
 use mathlib.Core.List.{List}
-use mathlib.Core.Logic.{⊎_elim}
-use mathlib.Core.Option.{Option, some}
-use Prim.Native.Nat.{ℕ, ◌+◌, ◌≤◌, ◌<◌}
-use native.Mathlib.Nat.{eq-or-lt_of_le}
-use lib.ListN.{length, set, take, length-set}
-use lib.Seq.{length-take-le}
-use Rattle.binar.specs.Bits.{◌⊕◌}
+use mathlib.Core.Option.{Option}
+use Prim.Native.Nat.{ℕ, ◌+◌, ◌≤◌}
+use lib.ListN.{length, take}
 use Rattle.binar.specs.Rows.{val}
 use Rattle.blocks.specs.Matrices.{matmul}
 use Rattle.blocks.specs.Words.{rows_in_lem}
-use Rattle.blocks.proofs.Values.{set_next}
 use Rattle.residue.specs.Residue.{form}
 use Rattle.symplectic.specs.Picks.{map_some}
 use Rattle.family.specs.Family.{symplectic_simplex_lem}
 use Rattle.family.specs.inner.Parts.{behind}
-use Rattle.family.proofs.Behind.{two_put}
-use Rattle.family.proofs.Members.{member_is}
-use Rattle.family.proofs.Simplices.{Owed, simplex_begun, simplex_done, simplex_stuck, simplex_paired, alone_by, partner_by}
-use native.Mathlib.Omega.{arith}
-use borrow.Author.Rules.{rules}
+use Rattle.family.proofs.Simplices.{Owed}
 use Rattle.family.proofs.symplectic_simplex.Given as goal
 
 -- the vectors in front, and the simplex behind them

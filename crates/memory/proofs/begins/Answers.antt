@@ -1,12 +1,10 @@
 -- `begins` compares row by row, by `same_onward`.
 use mathlib.Core.Path.{◌≡◌, refl, sym, ap₂, ◌∙◌}
-use Prim.Native.Nat.{◌-◌, ◌≤◌, ◌<◌}
+use Prim.Native.Nat.{◌≤◌, ◌<◌}
 use lib.Dec.{eqb}
-use lib.ListN.{length, get_or, take, drop, length-take}
+use lib.ListN.{length, get_or, take, length-take}
 use lib.Seq.{get_or-take, length-take-le}
-use borrow.Author.Tests.{not-true, not-false}
 use Rattle.blocks.specs.Words.{rows_in_lem}
-use Rattle.symplectic.specs.Matches.{same_rows}
 use Rattle.symplectic.proofs.Matches.{rows_differ, same_end, same_onward, same_stopped}
 use native.Mathlib.Omega.{arith}
 use borrow.Author.Rules.{rules}

@@ -1,8 +1,7 @@
 -- `clear` puts the zeros one by one, by `over_next` and `over_whole`.
-use mathlib.Core.Path.{◌≡◌, refl, sym, ◌∙◌}
-use mathlib.Core.List.{◌++◌}
-use Prim.Native.Nat.{ℕ, ◌-◌, ◌≤◌, ◌<◌}
-use lib.ListN.{length, take, drop, replicate, length-set, length-replicate, get_or-replicate}
+use mathlib.Core.Path.{refl, sym, ◌∙◌}
+use Prim.Native.Nat.{ℕ, ◌<◌}
+use lib.ListN.{length, replicate, length-set, length-replicate, get_or-replicate}
 use Rattle.blocks.proofs.Overs.{over_next, over_whole}
 use native.Mathlib.Omega.{arith}
 use borrow.Author.Rules.{rules}

@@ -26,7 +26,7 @@ pub returns-then-memory-lt-ENTRY : goal.returns-then-memory-lt-ENTRY
 returns-then-memory-lt-ENTRY c =
     let s = c.args in record {
       answered = sym (taken_none s.memory.now c.if-memory-lt-ENTRY.true);
-      left = sym (entered_none (rows_in_lem s.basis.now) s.memory.now c.if-memory-lt-ENTRY.true)
+      left = sym (entered_none (rows_in_lem s.basis.now) s.memory.now c.if-memory-lt-ENTRY.true);
     }
 
 pub shape_of-memory : goal.shape_of-memory
@@ -40,5 +40,5 @@ returns c =
     let room = c.if-memory-lt-ENTRY.false in
     let d = c.rows_in in record {
       answered = sym (taken_some s.memory.now room);
-      left = put (rows_in_lem s.basis.now) s.memory.now _ d.result room d.ensures c.lay.ensures
+      left = put (rows_in_lem s.basis.now) s.memory.now _ d.result room d.ensures c.lay.ensures;
     }

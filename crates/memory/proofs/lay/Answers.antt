@@ -3,7 +3,6 @@ use mathlib.Core.Path.{ap, ◌∙◌}
 use Prim.Native.Nat.{◌/◌}
 use Rattle.binar.specs.Rows.{width}
 use Rattle.blocks.specs.Words.{laid, rows_in_lem}
-use borrow.Author.Rules.{rules}
 use Rattle.memory.proofs.lay.Goals as goal
 
 pub returns : goal.returns

@@ -3,7 +3,6 @@ use mathlib.Core.Path.{◌≡◌, sym, ◌∙◌}
 use Prim.Native.Nat.{◌+◌}
 use native.Mathlib.Omega.{arith}
 use lib.ListN.{length}
-use borrow.Author.Tests.{not-true, not-false}
 use Rattle.blocks.specs.Words.{rows_of_words}
 use Rattle.blocks.proofs.Values.{rows_count}
 use Rattle.symplectic.specs.Turns.{symplectic}

@@ -2,7 +2,6 @@
 use mathlib.Core.Path.{◌≡◌, refl}
 use Prim.Native.Nat.{ℕ, zero, suc}
 use Rattle.questions.specs.Answers.{lent_number}
-use borrow.Author.Rules.{rules}
 use Rattle.questions.proofs.tell.Goals as goal
 
 left : (k value before : ℕ) → (k ≡ 0 → ⊥) → before ≡ lent_number k value before

@@ -1,19 +1,12 @@
 -- `words_fit` passes the rows one by one, by `all_next`; one that is too wide fails the test, by `all_fails`.
-use mathlib.Core.Path.{◌≡◌, refl, sym, ap₂, ◌∙◌}
+use mathlib.Core.Path.{◌≡◌}
 use mathlib.Core.Bool.{Bool, true}
-use Prim.Native.Nat.{ℕ, ◌+◌, ◌-◌, ◌^◌, ◌≤◌, ◌<◌}
-use native.Mathlib.Omega.{arith}
+use Prim.Native.Nat.{ℕ, ◌+◌, ◌-◌, ◌^◌, ◌≤◌}
 use lib.Dec.{ltb}
-use lib.ListN.{length, get_or, take}
-use borrow.Author.Tests.{not-true, not-false}
+use lib.ListN.{take}
 use Rattle.blocks.specs.Words.{rows_of_words}
-use Rattle.blocks.proofs.Values.{rows_count, rows_word}
 use Rattle.symplectic.specs.Sizes.{capped}
 use Rattle.symplectic.specs.Turns.{all_of}
-use Rattle.symplectic.proofs.Sizes.{capped_le}
-use Rattle.symplectic.proofs.Matches.{fit_all_is}
-use Rattle.symplectic.proofs.Tests.{all_next, all_fails, all_end}
-use borrow.Author.Rules.{rules}
 use Rattle.questions.proofs.words_fit.Given as goal
 
 -- a vector has no bits from 2n up

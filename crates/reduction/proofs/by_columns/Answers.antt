@@ -1,13 +1,13 @@
 -- `by_columns` does column after column, by `columns_step`; where every row has its pivot the others change nothing, by `columns_full`.
-use mathlib.Core.Path.{◌≡◌, refl, sym, ap, ◌∙◌}
+use mathlib.Core.Path.{refl, sym, ap, ◌∙◌}
 use mathlib.Core.List.{zip}
-use Prim.Native.Nat.{ℕ, ◌-◌, ◌≤◌}
+use Prim.Native.Nat.{ℕ, ◌-◌}
 use native.Mathlib.Nat.{sub-zero}
-use lib.ListN.{length, take, drop, drop_of_length-le}
+use lib.ListN.{take, drop_of_length-le}
 use Rattle.binar.specs.Bits.{bit}
 use Rattle.blocks.specs.Words.{rows_in_lem}
 use Rattle.symplectic.specs.Picks.{add_both}
-use Rattle.reduction.specs.Columns.{Echelon, unreduced, columns}
+use Rattle.reduction.specs.Columns.{unreduced}
 use Rattle.reduction.specs.inner.Sweeps.{halves}
 use Rattle.reduction.proofs.Columns.{columns_full}
 use Rattle.reduction.proofs.Flat.{columns_step, columns_done}

@@ -1,21 +1,13 @@
 -- `by_columns` does column after column, by `columns_step`; where every row has its pivot the others change nothing, by `columns_full`.
-use mathlib.Core.Path.{◌≡◌, refl, sym, ap, ◌∙◌}
+use mathlib.Core.Path.{◌≡◌}
 use mathlib.Core.List.{zip}
 use Prim.Native.Nat.{ℕ, ◌-◌, ◌≤◌}
-use native.Mathlib.Nat.{sub-zero}
-use lib.ListN.{length, take, drop, drop_of_length-le}
+use lib.ListN.{length, take, drop}
 use Rattle.binar.specs.Bits.{bit}
 use Rattle.blocks.specs.Words.{rows_in_lem}
 use Rattle.symplectic.specs.Picks.{add_both}
 use Rattle.reduction.specs.Columns.{Echelon, unreduced, columns}
 use Rattle.reduction.specs.inner.Sweeps.{halves}
-use Rattle.reduction.proofs.Columns.{columns_full}
-use Rattle.reduction.proofs.Flat.{columns_step, columns_done}
-use Rattle.reduction.proofs.Loops.{behind_kept}
-use Rattle.reduction.proofs.TwoLists.{zip_length}
-use Rattle.blocks.proofs.Lent.{lent_same}
-use native.Mathlib.Omega.{arith}
-use borrow.Author.Rules.{rules}
 use Rattle.reduction.proofs.by_columns.Given as goal
 
 -- k columns from c on

@@ -1,16 +1,11 @@
 -- `clear` adds to row after row of both, by `cleared_next` and `cleared_end`.
-use mathlib.Core.Path.{◌≡◌, refl, ap, ap₂, ◌∙◌}
+use mathlib.Core.Path.{◌≡◌}
 use mathlib.Core.List.{◌++◌, zip}
-use Prim.Native.Nat.{ℕ, ◌-◌, ◌≤◌, ◌<◌}
+use Prim.Native.Nat.{◌-◌, ◌≤◌}
 use lib.ListN.{length, take, drop}
-use Rattle.binar.specs.Bits.{select, bit, ◌⊕◌}
 use Rattle.binar.specs.Rows.{val}
 use Rattle.blocks.specs.Words.{rows_in_lem}
 use Rattle.reduction.specs.inner.Sweeps.{cleared}
-use Rattle.reduction.proofs.Swept.{cleared_next, cleared_end}
-use Rattle.blocks.proofs.Lent.{lent_same}
-use native.Mathlib.Omega.{arith}
-use borrow.Author.Rules.{rules}
 use Rattle.reduction.proofs.clear.Given as goal
 
 -- the rows before i are cleared

@@ -4,7 +4,6 @@ use mathlib.Core.List.{List}
 use Prim.Native.Nat.{ℕ}
 use lib.ListN.{set}
 use Rattle.blocks.specs.Words.{rows_in_lem}
-use borrow.Author.Rules.{rules}
 use Rattle.reduction.proofs.exchange.Goals as goal
 
 pub returns : goal.returns

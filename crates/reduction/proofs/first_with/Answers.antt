@@ -1,7 +1,5 @@
 -- `first_with` looks at the rows from p on: none before i has the column.
-use mathlib.Core.Path.{◌≡◌, sym, ap, ◌∙◌}
-use mathlib.Core.Bool.{false}
-use Prim.Native.Nat.{ℕ, ◌-◌, ◌≤◌, ◌<◌}
+use mathlib.Core.Path.{sym, ap, ◌∙◌}
 use lib.ListN.{get_or}
 use Rattle.binar.specs.Bits.{bit}
 use Rattle.blocks.specs.Words.{rows_in_lem}

@@ -1,13 +1,10 @@
 -- `first_with` looks at the rows from p on: none before i has the column.
-use mathlib.Core.Path.{◌≡◌, sym, ap, ◌∙◌}
+use mathlib.Core.Path.{◌≡◌}
 use mathlib.Core.Bool.{false}
 use Prim.Native.Nat.{ℕ, ◌-◌, ◌≤◌, ◌<◌}
 use lib.ListN.{get_or}
 use Rattle.binar.specs.Bits.{bit}
 use Rattle.blocks.specs.Words.{rows_in_lem}
-use Rattle.reduction.proofs.Loops.{none_more}
-use native.Mathlib.Omega.{arith}
-use borrow.Author.Rules.{rules}
 use Rattle.reduction.proofs.first_with.Given as goal
 
 abbrev pub invariant-loop-i : goal.invariant-loop-i

@@ -1,15 +1,10 @@
 -- `put_units` puts the unit rows one by one, by `units_at`.
-use mathlib.Core.Path.{◌≡◌, refl, sym, ap, ◌∙◌}
+use mathlib.Core.Path.{◌≡◌}
 use mathlib.Core.List.{◌++◌}
-use Prim.Native.Nat.{◌-◌, ◌≤◌, ◌<◌}
+use Prim.Native.Nat.{◌-◌, ◌≤◌}
 use lib.ListN.{length, take, drop}
-use Rattle.binar.proofs.Ones.{unit_is}
 use Rattle.blocks.specs.Matrices.{units}
 use Rattle.blocks.specs.Words.{rows_in_lem}
-use Rattle.blocks.proofs.Overs.{over_next, over_whole}
-use Rattle.blocks.proofs.Units.{units_length, units_at}
-use native.Mathlib.Omega.{arith}
-use borrow.Author.Rules.{rules}
 use Rattle.reduction.proofs.put_units.Given as goal
 
 abbrev pub invariant-loop-i : goal.invariant-loop-i

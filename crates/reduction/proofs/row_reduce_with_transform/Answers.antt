@@ -12,7 +12,6 @@ use Rattle.reduction.specs.Columns.{rows, row_reduce_with_transform_lem, rank}
 use Rattle.reduction.proofs.InPlace.{fitting_front, pivots_over, fitting_pivoted}
 use Rattle.reduction.proofs.Words.{put_back}
 use native.Mathlib.Omega.{arith}
-use borrow.Author.Rules.{rules}
 use Rattle.reduction.proofs.row_reduce_with_transform.Goals as goal
 use Rattle.reduction.proofs.row_reduce_with_transform.Goals.{After-lesser-k}
 
@@ -67,5 +66,5 @@ returns c =
       first_ones = promises.0;
       no_other_ones = promises.1;
       ascending = promises.2;
-      within = promises.3
+      within = promises.3;
     }

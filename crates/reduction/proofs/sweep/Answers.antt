@@ -3,7 +3,6 @@ use mathlib.Core.Path.{ap₂, ◌∙◌}
 use mathlib.Core.List.{zip}
 use Rattle.blocks.specs.Words.{rows_in_lem}
 use Rattle.reduction.proofs.Swept.{swept_is}
-use borrow.Author.Rules.{rules}
 use Rattle.reduction.proofs.sweep.Goals as goal
 
 pub returns : goal.returns

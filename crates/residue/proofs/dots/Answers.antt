@@ -1,7 +1,7 @@
 -- `dots` sets column after column, by `dots_next`.
 use mathlib.Core.Path.{◌≡◌, sym, ap, ap₂, ◌∙◌}
 use mathlib.Core.Bool.{Bool}
-use Prim.Native.Nat.{ℕ, ◌-◌, ◌≤◌, ◌<◌}
+use Prim.Native.Nat.{ℕ, ◌<◌}
 use lib.ListN.{length, take}
 use Rattle.binar.specs.Bits.{select, dot, ◌⊕◌}
 use Rattle.binar.specs.Rows.{val}

@@ -1,8 +1,7 @@
 -- `put_core` puts the dots of row after row, by `over_next` and `over_end`.
-use mathlib.Core.Path.{◌≡◌, refl, sym, ap, ◌∙◌}
-use mathlib.Core.List.{◌++◌}
-use Prim.Native.Nat.{◌-◌, ◌≤◌, ◌<◌}
-use lib.ListN.{length, take, drop}
+use mathlib.Core.Path.{refl, sym, ap, ◌∙◌}
+use Prim.Native.Nat.{◌<◌}
+use lib.ListN.{take}
 use lib.Seq.{get_or-take, length-take-le}
 use Rattle.blocks.specs.Matrices.{dots}
 use Rattle.blocks.specs.Words.{rows_in_lem}

@@ -1,16 +1,10 @@
 -- `put_core` puts the dots of row after row, by `over_next` and `over_end`.
-use mathlib.Core.Path.{◌≡◌, refl, sym, ap, ◌∙◌}
+use mathlib.Core.Path.{◌≡◌}
 use mathlib.Core.List.{◌++◌}
-use Prim.Native.Nat.{◌-◌, ◌≤◌, ◌<◌}
+use Prim.Native.Nat.{◌-◌, ◌≤◌}
 use lib.ListN.{length, take, drop}
-use lib.Seq.{get_or-take, length-take-le}
-use Rattle.blocks.specs.Matrices.{dots}
 use Rattle.blocks.specs.Words.{rows_in_lem}
-use Rattle.blocks.proofs.Overs.{over_next, over_end}
 use Rattle.residue.specs.Residue.{times_transposed}
-use Rattle.residue.proofs.Forms.{transposed_length, transposed_at}
-use native.Mathlib.Omega.{arith}
-use borrow.Author.Rules.{rules}
 use Rattle.residue.proofs.put_core.Given as goal
 
 abbrev pub invariant-loop-i : goal.invariant-loop-i

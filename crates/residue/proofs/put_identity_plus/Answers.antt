@@ -5,7 +5,6 @@ use Prim.Native.Nat.{ℕ}
 use Rattle.blocks.specs.Words.{rows_in_lem, over}
 use Rattle.actions.specs.Actions.{qubits, matrix}
 use Rattle.symplectic.specs.Turns.{identity_plus}
-use borrow.Author.Rules.{rules}
 use Rattle.residue.proofs.put_identity_plus.Goals as goal
 
 pub returns : goal.returns

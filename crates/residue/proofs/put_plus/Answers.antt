@@ -1,17 +1,13 @@
 -- `put_plus` puts the rows of I + F one by one, by `plus_from_at`, as far as there is room.
 use mathlib.Core.Path.{◌≡◌, refl, sym, ap, ap₂, ◌∙◌}
-use mathlib.Core.List.{List, ◌++◌}
-use Prim.Native.Nat.{ℕ, ◌+◌, ◌-◌, ◌≤◌, ◌<◌, min}
-use lib.ListN.{length, take, drop}
+use Prim.Native.Nat.{ℕ, ◌+◌, ◌<◌}
+use lib.ListN.{length}
 use Rattle.binar.specs.Bits.{◌⊕◌}
 use Rattle.binar.proofs.Ones.{unit_is}
 use Rattle.blocks.specs.Words.{rows_in_lem}
 use Rattle.blocks.proofs.Overs.{over_next, over_end}
 use Rattle.blocks.proofs.Values.{unmapped}
-use Rattle.actions.specs.declared.Action.{Action}
-use Rattle.symplectic.specs.Sizes.{most_rows}
 use Rattle.actions.specs.Actions.{qubits, matrix}
-use Rattle.symplectic.specs.Turns.{identity_plus}
 use Rattle.actions.proofs.Arrays.{qubits_le, qubits_capped, matrix_length, matrix_get}
 use Rattle.residue.proofs.Parts.{plus_from_length, plus_from_at}
 use native.Mathlib.Omega.{arith}

@@ -4,7 +4,6 @@ use Rattle.actions.specs.Actions.{qubits, matrix}
 use Rattle.actions.proofs.Arrays.{qubits_capped}
 use Rattle.residue.proofs.Parts.{residue_over}
 use native.Mathlib.Omega.{arith}
-use borrow.Author.Rules.{rules}
 use Rattle.residue.proofs.residue.Goals as goal
 use Rattle.residue.proofs.residue.Goals.{After-capped}
 

@@ -6,7 +6,6 @@ use Rattle.actions.proofs.Arrays.{qubits_le, qubits_capped}
 use Rattle.reduction.proofs.Words.{lent_room, lent_count, lent_rows}
 use native.Mathlib.Omega.{arith}
 use Rattle.actions.specs.Actions.{qubits}
-use borrow.Author.Rules.{rules}
 use Rattle.residue.proofs.residue_core.Goals as goal
 use Rattle.residue.proofs.residue_core.Goals.{After-capped-n}
 

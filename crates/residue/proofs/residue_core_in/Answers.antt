@@ -75,5 +75,5 @@ returns c =
     let based = c.put_front.ensures ∙ ap (λ (l : List ℕ). over l (rows_in_lem s.basis.now)) basis in record {
       ranked = rank;
       based = based;
-      cored = c.put_core.ensures ∙ ap (λ (l : List ℕ). over l (rows_in_lem s.core.now)) core
+      cored = c.put_core.ensures ∙ ap (λ (l : List ℕ). over l (rows_in_lem s.core.now)) core;
     }

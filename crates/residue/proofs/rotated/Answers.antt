@@ -4,7 +4,6 @@ use Prim.Native.Nat.{◌-◌}
 use native.Mathlib.Omega.{arith}
 use lib.ListN.{get_or}
 use Rattle.residue.proofs.Parts.{lower_at, upper_at}
-use borrow.Author.Rules.{rules}
 use Rattle.residue.proofs.rotated.Goals as goal
 
 pub returns-then-i-rest : goal.returns-then-i-rest

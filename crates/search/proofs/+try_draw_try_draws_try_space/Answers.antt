@@ -1,7 +1,7 @@
 -- `try_draw`, `try_space` and `try_draws` tell of the search with a memory, cut at the budget: a draw by its steps, a space by its questions, its draws by their invariant.
 use mathlib.Core.Path.{◌≡◌, refl, sym, ap, ◌∙◌, subst}
 use mathlib.Core.List.{List, ◌++◌, ◌∷◌}
-use Prim.Native.Nat.{ℕ, ◌+◌, ◌-◌, ◌*◌, ◌≤◌, ◌<◌, ◌^◌, min, suc}
+use Prim.Native.Nat.{ℕ, ◌+◌, ◌-◌, ◌≤◌, ◌<◌, ◌^◌, min, suc}
 use lib.ListN.{length, take, drop}
 use Rattle.binar.specs.Rows.{val, width, lowest}
 use Rattle.blocks.specs.Matrices.{times, All}
@@ -9,7 +9,7 @@ use Rattle.blocks.specs.Words.{rows_in_lem, words_for}
 use Rattle.triangular.specs.Memory.{Entry, Remembered, search_with, entry_basis, holds, enter, draws_with, known_within}
 use Rattle.memory.specs.Entries.{room_in, entry_size, entered}
 use Rattle.search.specs.inner.Reports.{Space, Carries, Grew, Reports}
-use Rattle.search.proofs.Going.{Going, going_begun, going_end, going_stop, all, going_left, going_found, going_spent, going_failed}
+use Rattle.search.proofs.Going.{going_begun, going_end, going_stop, all, going_left, going_found, going_spent, going_failed}
 use mathlib.Core.Bool.{true}
 use native.Mathlib.Omega.{arith}
 use Rattle.binar.specs.Bits.{dot, ◌⊕◌}
@@ -29,11 +29,9 @@ use borrow.Author.Tests.{ltb-true, ltb-false}
 use Rattle.blocks.proofs.Products.{times_zero}
 use Rattle.spaces.proofs.Levels.{sums_front, sums_at}
 use Rattle.search.proofs.Drawing.{ones_last, next_is, next_column, next_drawn}
-use mathlib.Core.Logic.{◌⊎◌, inl, inr, ⊎_elim}
-use denote.Enum.Declared.{tag_of}
+use mathlib.Core.Logic.{◌⊎◌, inl, inr}
 use lib.Seq.{length-take-le}
 use Rattle.triangular.specs.declared.Ending.TheVariants.{Found, Failed, Spent}
-use Rattle.triangular.specs.contracts.Ending.{the_type}
 use Rattle.triangular.proofs.Entries.{reduced_size, reduced_within}
 use Rattle.memory.specs.inner.Kept.{Fits, Kept}
 use Rattle.search.specs.declared.Asked.{Asked}

@@ -7,7 +7,6 @@ use Rattle.binar.specs.Rows.{width}
 use Rattle.blocks.specs.Words.{rows_in_lem}
 use Rattle.triangular.specs.Readings.{core_in}
 use Rattle.triangular.proofs.Cores.{core_in_lem}
-use borrow.Author.Rules.{rules}
 use Rattle.search.proofs.congruence_triangularize.Goals as goal
 use Rattle.search.proofs.congruence_triangularize.Goals.{After-lesser-k}
 

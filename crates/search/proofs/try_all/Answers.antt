@@ -12,7 +12,6 @@ use Rattle.spaces.proofs.Grams.{tested_form}
 use Rattle.search.specs.inner.Levels.{found_in}
 use Rattle.search.proofs.LentLevels.{levels_least}
 use Rattle.search.proofs.Reported.{grew_none, plain_alternating, plain_reports}
-use borrow.Author.Rules.{rules}
 use Rattle.search.proofs.try_all.Goals as goal
 
 pub try_space-requires : goal.try_space-requires

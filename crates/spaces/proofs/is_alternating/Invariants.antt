@@ -1,22 +1,11 @@
 -- `is_alternating` tests pair by pair, by the laws of `Alternates`; a bit of a Gram row is a form.
-use mathlib.Core.Path.{◌≡◌, sym, ap, ◌∙◌}
-use mathlib.Core.Bool.{true, ◌&&◌, beq}
-use Prim.Native.Nat.{ℕ, suc, ◌+◌, ◌-◌, ◌*◌, ◌≤◌, ◌<◌}
-use native.Mathlib.Nat.{suc-mul}
-use native.Mathlib.Omega.{arith}
-use lib.Dec.{ltb}
+use mathlib.Core.Path.{◌≡◌}
+use mathlib.Core.Bool.{true}
+use Prim.Native.Nat.{◌+◌, ◌-◌, ◌*◌, ◌≤◌}
 use lib.ListN.{get_or, take}
-use lib.Seq.{take_all}
-use borrow.Author.Tests.{not-true, not-false}
-use Rattle.binar.specs.Rows.{val}
 use Rattle.blocks.specs.Words.{rows_in_lem}
-use Rattle.linear.proofs.Maps.{same_of_beq}
 use Rattle.triangular.specs.Spaces.{is_alternating_lem, symmetric_with}
-use Rattle.triangular.proofs.Alternates.{beq_differ, symmetric_start, symmetric_next, alternating_start, alternating_next, fails_diagonal, fails_pair}
 use Rattle.spaces.specs.Levels.{below, form_in}
-use Rattle.spaces.proofs.Behind.{below_length}
-use Rattle.spaces.proofs.Grams.{form_bit}
-use borrow.Author.Rules.{rules}
 use Rattle.spaces.proofs.is_alternating.Given as goal
 
 abbrev pub invariant-loop-i : goal.invariant-loop-i

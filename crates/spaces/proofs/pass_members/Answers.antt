@@ -1,10 +1,10 @@
 -- `pass_members` puts each row behind its level as `passed_at` says.
 use mathlib.Core.Path.{◌≡◌, refl, sym, ap, ◌∙◌}
 use mathlib.Core.List.{map}
-use Prim.Native.Nat.{ℕ, ◌+◌, ◌-◌, ◌≤◌, ◌<◌}
+use Prim.Native.Nat.{◌+◌, ◌-◌, ◌<◌}
 use native.Mathlib.Nat.{add-zero, zero-add}
 use native.Mathlib.Omega.{arith}
-use lib.ListN.{length, get_or, take}
+use lib.ListN.{get_or, take}
 use Rattle.binar.specs.Bits.{bit}
 use Rattle.binar.specs.Rows.{val}
 use Rattle.blocks.specs.Words.{rows_in_lem}

@@ -1,18 +1,12 @@
 -- `pass_members` puts each row behind its level as `passed_at` says.
-use mathlib.Core.Path.{◌≡◌, refl, sym, ap, ◌∙◌}
+use mathlib.Core.Path.{◌≡◌}
 use mathlib.Core.List.{map}
-use Prim.Native.Nat.{ℕ, ◌+◌, ◌-◌, ◌≤◌, ◌<◌}
-use native.Mathlib.Nat.{add-zero, zero-add}
-use native.Mathlib.Omega.{arith}
+use Prim.Native.Nat.{ℕ, ◌+◌, ◌-◌, ◌≤◌}
 use lib.ListN.{length, get_or, take}
 use Rattle.binar.specs.Bits.{bit}
 use Rattle.binar.specs.Rows.{val}
 use Rattle.blocks.specs.Words.{rows_in_lem}
-use Rattle.spaces.specs.Levels.{below, over_from, passed_at, members_passed}
-use Rattle.spaces.proofs.Behind.{from_start, from_next, from_end, from_before}
-use Rattle.spaces.proofs.Rows.{passed_is, digit_next}
-use Rattle.spaces.proofs.Levels.{counted_is, members_none}
-use borrow.Author.Rules.{rules}
+use Rattle.spaces.specs.Levels.{below, over_from, passed_at}
 use Rattle.spaces.proofs.pass_members.Given as goal
 
 abbrev pub invariant-loop-n : goal.invariant-loop-n

@@ -3,7 +3,6 @@ use mathlib.Core.Path.{sym, ap, ◌∙◌}
 use Rattle.binar.specs.Bits.{select, ◌⊕◌}
 use Rattle.binar.specs.Rows.{val}
 use Rattle.spaces.specs.Levels.{kept_or}
-use borrow.Author.Rules.{rules}
 use Rattle.spaces.proofs.passed.Goals as goal
 
 pub returns-then-before : goal.returns-then-before

@@ -4,7 +4,6 @@ use Prim.Native.Nat.{◌/◌, ◌^◌}
 use Rattle.binar.specs.Bits.{select, ◌⊕◌}
 use Rattle.binar.specs.Rows.{val}
 use Rattle.spaces.specs.Levels.{without_column, shrunk}
-use borrow.Author.Rules.{rules}
 use Rattle.spaces.proofs.shrunk.Goals as goal
 
 pub returns : goal.returns

@@ -1,17 +1,17 @@
 -- `sums` puts the sum of the first rows behind them, by `summed_more`.
-use mathlib.Core.Path.{◌≡◌, refl, sym, ap, ap₂, ◌∙◌}
+use mathlib.Core.Path.{refl, sym, ap, ap₂, ◌∙◌}
 use mathlib.Core.List.{map}
-use Prim.Native.Nat.{◌-◌, ◌^◌, ◌≤◌, ◌<◌}
+use Prim.Native.Nat.{◌-◌, ◌^◌, ◌<◌}
 use native.Mathlib.Numerals.{add-one}
 use native.Mathlib.Omega.{arith}
-use lib.ListN.{length, get_or, take}
+use lib.ListN.{get_or, take}
 use lib.Seq.{get_or-take}
 use Rattle.binar.specs.Bits.{◌⊕◌}
 use Rattle.binar.specs.Rows.{val}
 use Rattle.blocks.specs.Matrices.{times}
 use Rattle.blocks.specs.Words.{rows_in_lem}
 use Rattle.blocks.proofs.Products.{times_zero}
-use Rattle.spaces.specs.Levels.{below, over_from, sum_to, summed}
+use Rattle.spaces.specs.Levels.{below, sum_to, summed}
 use Rattle.spaces.proofs.Behind.{from_start, from_next, from_end, from_before}
 use Rattle.spaces.proofs.Rows.{summed_more, sum_is}
 use Rattle.spaces.proofs.Levels.{counted_is, sums_none}

@@ -4,7 +4,6 @@ use Rattle.questions.proofs.Answered.{meets}
 use Rattle.transvection_exact.specs.Minimal.{minimal_reply}
 use Rattle.transvection_exact.specs.Answers.{figures_of_lem}
 use Rattle.transvection_exact.proofs.Answered.{Promised, minimal_shortest}
-use borrow.Author.Rules.{rules}
 use Rattle.transvection_exact.proofs.clifford_to_transvections_minimal.Goals as goal
 
 pub returns : goal.returns
@@ -19,5 +18,5 @@ returns c =
       replays = told.1.1.0;
       shortest = told.1.1.1.0;
       exact = told.1.1.1.1.0;
-      every_layer = told.1.1.1.1.1
+      every_layer = told.1.1.1.1.1;
     }

@@ -49,7 +49,7 @@ returns-in-TooManyQubits c =
       exact = told.1.1.1.1.1.0;
       as_without = told.1.1.1.1.1.1.0;
       every_layer = told.1.1.1.1.1.1.1.0;
-      plainly = told.1.1.1.1.1.1.1.1
+      plainly = told.1.1.1.1.1.1.1.1;
     }
 
 pub returns-in-WrongRowCount : goal.returns-in-WrongRowCount
@@ -64,7 +64,7 @@ returns-in-WrongRowCount c =
       exact = told.1.1.1.1.1.0;
       as_without = told.1.1.1.1.1.1.0;
       every_layer = told.1.1.1.1.1.1.1.0;
-      plainly = told.1.1.1.1.1.1.1.1
+      plainly = told.1.1.1.1.1.1.1.1;
     }
 
 pub returns-in-RowTooWide : goal.returns-in-RowTooWide
@@ -79,7 +79,7 @@ returns-in-RowTooWide c =
       exact = told.1.1.1.1.1.0;
       as_without = told.1.1.1.1.1.1.0;
       every_layer = told.1.1.1.1.1.1.1.0;
-      plainly = told.1.1.1.1.1.1.1.1
+      plainly = told.1.1.1.1.1.1.1.1;
     }
 
 pub returns-in-NotSymplectic : goal.returns-in-NotSymplectic
@@ -94,7 +94,7 @@ returns-in-NotSymplectic c =
       exact = told.1.1.1.1.1.0;
       as_without = told.1.1.1.1.1.1.0;
       every_layer = told.1.1.1.1.1.1.1.0;
-      plainly = told.1.1.1.1.1.1.1.1
+      plainly = told.1.1.1.1.1.1.1.1;
     }
 
 pub overflow_mul-wanted : goal.overflow_mul-wanted
@@ -116,7 +116,7 @@ returns-then-out-wanted c =
       exact = told.1.1.1.1.1.0;
       as_without = told.1.1.1.1.1.1.0;
       every_layer = told.1.1.1.1.1.1.1.0;
-      plainly = told.1.1.1.1.1.1.1.1
+      plainly = told.1.1.1.1.1.1.1.1;
     }
 
 -- the action that was loaded
@@ -152,5 +152,5 @@ returns c =
       exact = told.1.1.1.1.1.0;
       as_without = told.1.1.1.1.1.1.0;
       every_layer = told.1.1.1.1.1.1.1.0;
-      plainly = told.1.1.1.1.1.1.1.1
+      plainly = told.1.1.1.1.1.1.1.1;
     }

@@ -80,7 +80,7 @@ returns-in-Spent c =
     let w = searched_spent (qubits s.a) (matrix s.a) s.budget s.out.now (outcome (goal.at.returns-in-Spent c).Start) o.result (came (goal.at.returns-in-Spent c).After-congruence_triangularize-o) (search (rules, c.in-Spent.is)) in record {
       answered = sym (ap (λ (x : Reply). x.figures) w);
       left = sym (ap (λ (x : Reply). x.words) w);
-      remembered = entered (goal.at.returns-in-Spent c).After-congruence_triangularize-o
+      remembered = entered (goal.at.returns-in-Spent c).After-congruence_triangularize-o;
     }
 
 pub returns-in-Found : goal.returns-in-Found
@@ -103,7 +103,7 @@ returns-in-Found c =
     let w = searched_found (qubits s.a) (matrix s.a) s.budget s.out.now (outcome (goal.at.returns-in-Found c).Start) o.result (came (goal.at.returns-in-Found c).After-congruence_triangularize-o) vs told (ap₂ matmul list pre.0) in record {
       answered = e.answered ∙ sym (ap (λ (x : Reply). x.figures) w);
       left = e.left ∙ ap (λ (m : ℕ). laid m vs s.out.now) q ∙ sym (ap (λ (x : Reply). x.words) w);
-      remembered = entered (goal.at.returns-in-Found c).After-congruence_triangularize-o
+      remembered = entered (goal.at.returns-in-Found c).After-congruence_triangularize-o;
     }
 
 pub returns : goal.returns
@@ -130,7 +130,7 @@ returns c =
     let w = searched_failed (qubits s.a) (matrix s.a) s.budget s.out.now (outcome (goal.at.returns c).Start) o.result (came (goal.at.returns c).After-congruence_triangularize-o) vs fails (ap₂ matmul list pre.0) in record {
       answered = e.answered ∙ sym (ap (λ (x : Reply). x.figures) w);
       left = e.left ∙ ap (λ (m : ℕ). laid m vs s.out.now) q ∙ sym (ap (λ (x : Reply). x.words) w);
-      remembered = entered (goal.at.returns c).After-congruence_triangularize-o
+      remembered = entered (goal.at.returns c).After-congruence_triangularize-o;
     }
 
 pub slice_bounds-multiplied-end : goal.slice_bounds-multiplied-end

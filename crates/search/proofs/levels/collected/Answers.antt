@@ -1,10 +1,9 @@
 -- `collected` puts the draw of each level, by `collect_draw` and `collect_next`.
 use mathlib.Core.Path.{◌≡◌, refl, sym, ap, ◌∙◌}
-use mathlib.Core.List.{◌++◌}
-use Prim.Native.Nat.{◌+◌, ◌-◌, ◌≤◌, ◌<◌}
+use Prim.Native.Nat.{◌+◌, ◌-◌, ◌<◌}
 use native.Mathlib.Nat.{zero-add}
 use native.Mathlib.Omega.{arith}
-use lib.ListN.{length, take, drop}
+use lib.ListN.{length}
 use Rattle.binar.specs.Rows.{val}
 use Rattle.blocks.specs.Words.{rows_in_lem}
 use Rattle.blocks.proofs.Lent.{lent_few}

@@ -1,17 +1,10 @@
 -- `collected` puts the draw of each level, by `collect_draw` and `collect_next`.
-use mathlib.Core.Path.{◌≡◌, refl, sym, ap, ◌∙◌}
+use mathlib.Core.Path.{◌≡◌}
 use mathlib.Core.List.{◌++◌}
-use Prim.Native.Nat.{◌+◌, ◌-◌, ◌≤◌, ◌<◌}
-use native.Mathlib.Nat.{zero-add}
-use native.Mathlib.Omega.{arith}
+use Prim.Native.Nat.{◌+◌, ◌-◌, ◌≤◌}
 use lib.ListN.{length, take, drop}
-use Rattle.binar.specs.Rows.{val}
 use Rattle.blocks.specs.Words.{rows_in_lem}
-use Rattle.blocks.proofs.Lent.{lent_few}
-use Rattle.blocks.proofs.Overs.{over_next, over_end}
 use Rattle.search.specs.inner.Levels.{levels, found_in}
-use Rattle.search.proofs.LentLevels.{levels_step, levels_least, found_length, collect_draw, collect_next}
-use borrow.Author.Rules.{rules}
 use Rattle.search.proofs.levels.collected.Given as goal
 
 abbrev pub invariant-loop-i : goal.invariant-loop-i

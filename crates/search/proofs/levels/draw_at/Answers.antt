@@ -1,6 +1,6 @@
 -- `draw_at` multiplies the rows of a level, a part of the lent words.
 use mathlib.Core.Path.{sym, ap₂, ◌∙◌}
-use Prim.Native.Nat.{◌+◌, ◌-◌}
+use Prim.Native.Nat.{◌+◌}
 use native.Mathlib.Omega.{arith}
 use lib.Seq.{get_or-drop}
 use Rattle.blocks.specs.Matrices.{times}

@@ -19,7 +19,6 @@ use Rattle.memory.specs.inner.Kept.{Kept}
 use Rattle.memory.proofs.Kept.{kept_held}
 use Rattle.spaces.specs.Levels.{below, gram_of, form_in}
 use Rattle.spaces.proofs.Grams.{tested_form}
-use borrow.Author.Rules.{rules}
 use Rattle.search.proofs.remembers.ask.Goals as goal
 use Rattle.search.proofs.remembers.ask.Goals.{After-holds}
 

@@ -1,14 +1,8 @@
 -- `put_again` puts each member behind the members.
-use mathlib.Core.Path.{◌≡◌, refl, ap, ◌∙◌}
+use mathlib.Core.Path.{◌≡◌}
 use Prim.Native.Nat.{ℕ, ◌+◌, ◌-◌, ◌≤◌, ◌<◌}
-use native.Mathlib.Nat.{le_refl}
-use native.Mathlib.Omega.{arith}
-use lib.ListN.{length, length-set, get_or, take}
-use lib.Seq.{take-set-le, length-take-le}
-use Rattle.binar.specs.Rows.{val}
+use lib.ListN.{length, get_or, take}
 use Rattle.blocks.specs.Words.{rows_in_lem}
-use Rattle.search.proofs.LentLevels.{front_row, put_next, level_rows}
-use borrow.Author.Rules.{rules}
 use Rattle.search.proofs.remembers.put_again.Given as goal
 
 abbrev pub invariant-loop-i : goal.invariant-loop-i

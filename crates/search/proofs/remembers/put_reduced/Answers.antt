@@ -11,7 +11,6 @@ use Rattle.blocks.proofs.Lent.{lent_same, lent_rest, lent_back}
 use Rattle.triangular.specs.Memory.{entry_basis}
 use Rattle.search.proofs.LentLevels.{back_front, back_rest}
 use Rattle.search.proofs.Reduces.{reduced_front}
-use borrow.Author.Rules.{rules}
 use Rattle.search.proofs.remembers.put_reduced.Goals as goal
 
 pub slice_bounds-row_reduce_with_transform-end-3 : goal.slice_bounds-row_reduce_with_transform-end-3

@@ -1,7 +1,6 @@
 -- `searched_large` lends words with room for the levels of dimension 64: 4,160.
 use mathlib.Core.Path.{sym}
 use Rattle.search.proofs.LentLevels.{levels_fit, levels_64}
-use borrow.Author.Rules.{rules}
 use Rattle.search.proofs.words.searched_large.Goals as goal
 
 pub searched-requires : goal.searched-requires

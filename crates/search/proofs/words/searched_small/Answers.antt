@@ -9,7 +9,6 @@ use Rattle.blocks.specs.Words.{rows_in_lem}
 use Rattle.triangular.specs.Readings.{core_in}
 use Rattle.search.specs.inner.Levels.{levels}
 use Rattle.search.proofs.LentLevels.{levels_fit, levels_8, levels_16, levels_32}
-use borrow.Author.Rules.{rules}
 use Rattle.search.proofs.words.searched_small.Goals as goal
 use Rattle.search.proofs.words.searched_small.Goals.{Start}
 

@@ -1,0 +1,18 @@
+-- `action_rows` holds that the words before `k` are those of the part, by `words_more`.
+use mathlib.Core.List.{[]}
+use mathlib.Core.Path.{◌≡◌, refl, ◌∙◌}
+use Prim.Native.Nat.{◌*◌, ◌-◌, ◌≤◌}
+use native.Mathlib.Omega.{arith}
+use lib.ListN.{length, take, length-set}
+use borrow.Author.Rules.{rules}
+use Rattle.symplectic.specs.Sizes.{most_rows}
+use Rattle.numbers.specs.Numbers.{part}
+use Rattle.printout.specs.Printout.{words_of_bytes}
+use Rattle.printout.proofs.Words.{words_none, words_more}
+use Rattle.printout.proofs.action_rows.Given as goal
+
+abbrev pub invariant-loop-k : goal.invariant-loop-k
+invariant-loop-k l = (l.k ≤ l.m) × (length l.rows ≡ most_rows) × (take l.k l.rows ≡ words_of_bytes l.k (part l.file l.offset (8 * l.m)))
+
+abbrev pub decreases-loop-k : goal.decreases-loop-k
+decreases-loop-k l = l.m - l.k
