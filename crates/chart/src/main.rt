@@ -1,11 +1,14 @@
 // chart: writes the commutation chart to standard output: the letters, then for each letter a line with what it pairs to with each.
 // Not in the source.
+#![tactic(auto)]
+
 ghost use Rattle.std.specs.Prelude.{◌≡◌, ◌+◌};
 ghost use Rattle.binar.specs.Bits.{digit as digit_of};
 ghost use Rattle.chart.specs.inner.Chart.{line as line_of, heading as heading_of, row as row_of};
 
 use letters::Letter;
-use libc::STDOUT_FILENO;
+use std::io;
+use std::io::Print;
 
 // How many bytes a line has: five columns, each with a byte behind it.
 const LINE: usize = 10;
@@ -46,18 +49,22 @@ fn row(a: Letter) -> [u8; LINE]
     line(letters::byte(a), i, x, y, z)
 }
 
-// Whether a line was written.
-fn written(line: [u8; LINE]) -> bool {
-    io::write_all(STDOUT_FILENO, &line)
+fn written(rt: &impl Print, line: [u8; LINE]) -> io::Result<()> {
+    rt.write_all(&line)
 }
 
-fn main() {
-    let whole = written(heading())
-        && written(row(Letter::I))
-        && written(row(Letter::X))
-        && written(row(Letter::Y))
-        && written(row(Letter::Z));
-    if !whole {
-        os::fail(b"chart: standard output");
+fn write_chart(rt: &impl Print) -> io::Result<()> {
+    written(rt, heading())?;
+    written(rt, row(Letter::I))?;
+    written(rt, row(Letter::X))?;
+    written(rt, row(Letter::Y))?;
+    written(rt, row(Letter::Z))
+}
+
+// Says on standard error why the chart was not written.
+fn main(rt: HostRuntime) -> io::Result<()> {
+    if let Err(e) = write_chart(&rt) {
+        eprintln!(rt; "chart: standard output: {e}")?;
     }
+    Ok(())
 }

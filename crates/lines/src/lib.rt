@@ -1,5 +1,7 @@
 // A line of the printout, by value. Each function writes behind the bytes that a line has.
 // Not in the source.
+#![tactic(auto)]
+
 ghost use Rattle.std.specs.Prelude.{◌≡◌, [], ◌∷◌, ◌++◌, ◌+◌, length, take};
 ghost use Rattle.binar.specs.Rows.{val};
 ghost use Rattle.blocks.specs.Words.{rows_of_words};

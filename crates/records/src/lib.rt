@@ -1,5 +1,7 @@
 // What the programs that replay reference answers share: words compared, records counted.
 // Not in the source.
+#![tactic(auto)]
+
 ghost use Rattle.std.specs.Prelude.{◌≡◌, true};
 ghost use Rattle.records.specs.Scores.{one_more_lem, counted_in};
 

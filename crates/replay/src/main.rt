@@ -1,6 +1,8 @@
 // replay: reads reference answers, records, from standard input, makes the call of each, and counts the whole answers that agree.
 // A record is a header of 36 bytes, little-endian, and two runs of words: what is lent, and what is listed. See tools/mkreplay.
 // Not in the source.
+#![tactic(auto)]
+
 mod score;
 
 ghost use Rattle.std.specs.Prelude.{◌≡◌, true, ◌≤◌, ◌<◌, length};
@@ -9,6 +11,7 @@ ghost use Rattle.replay.specs.inner.Records.{Alike, Split, HasRoom};
 use numbers::number_at;
 use questions::Figures;
 use records::same;
+use std::io;
 use symplectic::MOST_VECTORS;
 
 // What each output word holds before a call.
@@ -248,6 +251,6 @@ fn agrees(c: Case, bytes: &[u8]) -> bool
     same(&want, &out)
 }
 
-fn main() {
-    score::run();
+fn main(rt: HostRuntime) -> io::Result<()> {
+    score::run(&rt, &mut rt.stdin())
 }

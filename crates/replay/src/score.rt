@@ -1,10 +1,21 @@
 // Reads the records one by one, counts them by kind, and prints the counts.
-ghost use Rattle.std.specs.Prelude.{◌<◌};
+ghost use Rattle.std.specs.Prelude.{◌≡◌, ◌<◌, length};
 ghost use Rattle.replay.specs.inner.Records.{HasRoom};
 
 use crate::{Case, agrees, case_of, fits, known, span};
-use libc::{STDIN_FILENO, STDOUT_FILENO};
+use reading::read_full;
 use records::more;
+use std::io;
+use std::io::{Print, Read};
+
+// How many bytes the words of a record have room for.
+const ROOM: usize = 4096;
+
+fn room() -> [u8; ROOM]
+    ensures { 4096 ≡ length result }
+{
+    [0u8; ROOM]
+}
 
 // How many records of each kind agree and differ, and how many were not read.
 #[derive(Clone, Copy)]
@@ -63,12 +74,12 @@ fn ended(t: Score) -> Step {
 }
 
 // Reads the words of a record and counts it. A record that is cut short is the last one.
-fn with_words(t: Score, c: Case) -> Step
+fn with_words(input: &mut impl Read, t: Score, c: Case) -> Step
     requires { HasRoom c }
 {
     let k = span(c.lent + c.count, c.size);
-    let mut bytes = io::buffer();
-    let got = io::read_full(STDIN_FILENO, &mut bytes[..k]);
+    let mut bytes = room();
+    let got = read_full(input, &mut bytes[..k]);
     if got < k {
         return ended(one_unread(t));
     }
@@ -79,9 +90,9 @@ fn with_words(t: Score, c: Case) -> Step
 }
 
 // Reads a record and counts it. A header that is cut short or asks for too much room is the last one.
-fn next_record(t: Score) -> Step {
+fn next_record(input: &mut impl Read, t: Score) -> Step {
     let mut head = [0u8; 36];
-    let got = io::read_full(STDIN_FILENO, &mut head);
+    let got = read_full(input, &mut head);
     if got == 0 {
         return ended(t);
     }
@@ -92,50 +103,43 @@ fn next_record(t: Score) -> Step {
     if !fits(c) {
         return ended(one_unread(t));
     }
-    with_words(t, c)
+    with_words(input, t, c)
 }
 
-fn print_kind(name: &[u8], agree: u64, differ: u64) {
+fn print_kind(rt: &impl Print, name: &str, agree: u64, differ: u64) -> io::Result<()> {
     if agree == 0 && differ == 0 {
-        return;
+        return Ok(());
     }
-    io::write_all(STDOUT_FILENO, name);
-    io::print_decimal(STDOUT_FILENO, agree);
-    io::write_all(STDOUT_FILENO, b" agree, ");
-    io::print_decimal(STDOUT_FILENO, differ);
-    io::write_all(STDOUT_FILENO, b" differ\n");
+    println!(rt; "{name}{agree} agree, {differ} differ")
 }
 
-fn print_score(t: Score) {
-    print_kind(b"min ", t.agree[0], t.differ[0]);
-    print_kind(b"greedy ", t.agree[1], t.differ[1]);
-    print_kind(b"rebuild ", t.agree[2], t.differ[2]);
-    print_kind(b"gates ", t.agree[3], t.differ[3]);
-    print_kind(b"fixed ", t.agree[4], t.differ[4]);
-    print_kind(b"shorter ", t.agree[5], t.differ[5]);
-    print_kind(b"self-inverse ", t.agree[6], t.differ[6]);
+fn print_score(rt: &impl Print, t: Score) -> io::Result<()> {
+    print_kind(rt, "min ", t.agree[0], t.differ[0])?;
+    print_kind(rt, "greedy ", t.agree[1], t.differ[1])?;
+    print_kind(rt, "rebuild ", t.agree[2], t.differ[2])?;
+    print_kind(rt, "gates ", t.agree[3], t.differ[3])?;
+    print_kind(rt, "fixed ", t.agree[4], t.differ[4])?;
+    print_kind(rt, "shorter ", t.agree[5], t.differ[5])?;
+    print_kind(rt, "self-inverse ", t.agree[6], t.differ[6])?;
     if t.unread == 0 {
-        return;
+        return Ok(());
     }
-    io::write_all(STDOUT_FILENO, b"unread ");
-    io::print_decimal(STDOUT_FILENO, t.unread);
-    io::write_all(STDOUT_FILENO, b"\n");
+    println!(rt; "unread {}", t.unread)
 }
 
 // Takes at most 100,000 steps; input whose end is not met by then counts as one record that was not read.
-pub(crate) fn run() {
+pub(crate) fn run(rt: &impl Print, input: &mut impl Read) -> io::Result<()> {
     let mut t = Score {
         agree: [0; 7],
         differ: [0; 7],
         unread: 0,
     };
     for _ in 0u64..100000 {
-        let s = next_record(t);
+        let s = next_record(input, t);
         t = s.score;
         if s.ended {
-            print_score(t);
-            return;
+            return print_score(rt, t);
         }
     }
-    print_score(one_unread(t));
+    print_score(rt, one_unread(t))
 }

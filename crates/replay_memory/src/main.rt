@@ -2,6 +2,8 @@
 // counts the whole answers that agree, the memory that is left among them.
 // A record is a header of 40 bytes, little-endian, and words: the rows, the list, and the entries of the memory. See tools/mkreplay.
 // Not in the source.
+#![tactic(auto)]
+
 mod score;
 
 ghost use Rattle.std.specs.Prelude.{◌≡◌, true, ◌≤◌, length};
@@ -10,6 +12,7 @@ ghost use Rattle.replay_memory.specs.inner.Records.{HasRoom};
 use numbers::number_at;
 use questions::Figures;
 use records::same;
+use std::io;
 
 // What each lent word holds before a call.
 const FILL: u64 = 0xa5a5a5a5a5a5a5a5;
@@ -184,6 +187,6 @@ fn agrees(c: Case, bytes: &[u8]) -> bool
     alike(c, &words[..c.words])
 }
 
-fn main() {
-    score::run();
+fn main(rt: HostRuntime) -> io::Result<()> {
+    score::run(&rt, &mut rt.stdin())
 }

@@ -1,17 +1,29 @@
 // Reads the records one by one, counts them, and prints the counts.
+ghost use Rattle.std.specs.Prelude.{◌≡◌, length};
 ghost use Rattle.replay_memory.specs.inner.Records.{HasRoom};
 
 use crate::{Case, agrees, case_of, fits};
-use libc::{STDIN_FILENO, STDOUT_FILENO};
+use reading::read_full;
 use records::{Score, counted, ended, one_unread};
+use std::io;
+use std::io::{Print, Read};
+
+// How many bytes a record has room for.
+const ROOM: usize = 4096;
+
+fn room() -> [u8; ROOM]
+    ensures { 4096 ≡ length result }
+{
+    [0u8; ROOM]
+}
 
 // Reads the words of a record and counts it. A record that is cut short is the last one.
-fn with_words(t: Score, c: Case) -> Score
+fn with_words(input: &mut impl Read, t: Score, c: Case) -> Score
     requires { HasRoom c }
 {
     let k = c.words * c.size;
-    let mut bytes = io::buffer();
-    let got = io::read_full(STDIN_FILENO, &mut bytes[..k]);
+    let mut bytes = room();
+    let got = read_full(input, &mut bytes[..k]);
     if got < k {
         return ended(one_unread(t));
     }
@@ -19,9 +31,9 @@ fn with_words(t: Score, c: Case) -> Score
 }
 
 // Reads a record and counts it. A header that is cut short or asks for too much room is the last one.
-fn next_record(t: Score) -> Score {
+fn next_record(input: &mut impl Read, t: Score) -> Score {
     let mut head = [0u8; 40];
-    let got = io::read_full(STDIN_FILENO, &mut head);
+    let got = read_full(input, &mut head);
     if got == 0 {
         return ended(t);
     }
@@ -32,25 +44,19 @@ fn next_record(t: Score) -> Score {
     if !fits(c) {
         return ended(one_unread(t));
     }
-    with_words(t, c)
+    with_words(input, t, c)
 }
 
-fn print_score(t: Score) {
-    io::write_all(STDOUT_FILENO, b"memory ");
-    io::print_decimal(STDOUT_FILENO, t.agree);
-    io::write_all(STDOUT_FILENO, b" agree, ");
-    io::print_decimal(STDOUT_FILENO, t.differ);
-    io::write_all(STDOUT_FILENO, b" differ\n");
+fn print_score(rt: &impl Print, t: Score) -> io::Result<()> {
+    println!(rt; "memory {} agree, {} differ", t.agree, t.differ)?;
     if t.unread == 0 {
-        return;
+        return Ok(());
     }
-    io::write_all(STDOUT_FILENO, b"unread ");
-    io::print_decimal(STDOUT_FILENO, t.unread);
-    io::write_all(STDOUT_FILENO, b"\n");
+    println!(rt; "unread {}", t.unread)
 }
 
 // Takes at most 100,000 steps; input whose end is not met by then counts as one record that was not read.
-pub(crate) fn run() {
+pub(crate) fn run(rt: &impl Print, input: &mut impl Read) -> io::Result<()> {
     let mut t = Score {
         agree: 0,
         differ: 0,
@@ -58,11 +64,10 @@ pub(crate) fn run() {
         ended: false,
     };
     for _ in 0u64..100000 {
-        t = next_record(t);
+        t = next_record(input, t);
         if t.ended {
-            print_score(t);
-            return;
+            return print_score(rt, t);
         }
     }
-    print_score(one_unread(t));
+    print_score(rt, one_unread(t))
 }

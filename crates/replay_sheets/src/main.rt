@@ -2,6 +2,8 @@
 // our six gates, plays its sequence with the lent sheet and with the one in force, and counts the whole answers that agree.
 // A record is a header of 24 bytes, little-endian, and then the sheet, the sequence, and the rows of its action. See tools/mkreplay.
 // Not in the source.
+#![tactic(auto)]
+
 mod score;
 
 ghost use Rattle.std.specs.Prelude.{◌≡◌, true, ◌+◌, ◌*◌, ◌≤◌, length};
@@ -9,6 +11,7 @@ ghost use Rattle.replay_sheets.specs.inner.Records.{HasRoom};
 
 use numbers::number_at;
 use records::same;
+use std::io;
 
 // What each output word holds before a call.
 const FILL: u64 = 0xa5a5a5a5a5a5a5a5;
@@ -120,6 +123,6 @@ fn agrees(c: Case, bytes: &[u8]) -> bool
     plays(c, c.in_force, in_force, gates, rows)
 }
 
-fn main() {
-    score::run();
+fn main(rt: HostRuntime) -> io::Result<()> {
+    score::run(&rt, &mut rt.stdin())
 }

@@ -1,13 +1,19 @@
 // turnlist: reads a job file from standard input and writes its printout to standard output, page by page.
 // Not in the source.
+#![tactic(auto)]
+
 ghost use Rattle.std.specs.Prelude.{◌≡◌, ◌+◌, ◌≤◌, length};
 ghost use Rattle.job.specs.Files.{longest_file};
 
-use libc::{STDIN_FILENO, STDOUT_FILENO};
 use printout::Page;
+use std::io;
+use std::io::{Eprint, Print, Read};
 
 // One byte past the longest file is enough for the questions to refuse what is longer.
 const FILE_ROOM: usize = 65537;
+
+// How many bytes a page has room for.
+const PAGE_ROOM: usize = 65536;
 
 // No file that passes has more lines than bytes.
 const MOST_LINES: u64 = 65536;
@@ -18,52 +24,84 @@ fn file_room() -> [u8; FILE_ROOM]
     [0u8; FILE_ROOM]
 }
 
-// Whether standard input has ended: a read that fails is not its end.
-fn at_end() -> bool {
+fn page_room() -> [u8; PAGE_ROOM]
+    ensures { 65536 ≡ length result }
+{
+    [0u8; PAGE_ROOM]
+}
+
+// Says on standard error what failed. Where that is not written either, nothing more is said.
+fn fail(rt: &impl Eprint, stream: &str, e: io::Error) {
+    let _ = eprintln!(rt; "turnlist: {stream}: {e}");
+}
+
+// Whether the input has ended: a read that fails is not its end.
+fn at_end(input: &mut impl Read) -> io::Result<bool> {
     let mut more = [0u8; 1];
-    libc::read(STDIN_FILENO, &mut more) == 0
+    Ok(input.read(&mut more)? == 0)
+}
+
+// Whether the input has ended; if not, says so on standard error.
+fn whole(rt: &impl Eprint, input: &mut impl Read) -> bool {
+    match at_end(input) {
+        Ok(true) => true,
+        Ok(false) => {
+            fail(
+                rt,
+                "standard input",
+                io::Error::other("more behind its end"),
+            );
+            false
+        }
+        Err(e) => {
+            fail(rt, "standard input", e);
+            false
+        }
+    }
 }
 
 // Whether the text was written; if not, says so on standard error.
-fn write_text(text: &[u8]) -> bool {
-    let written = io::write_all(STDOUT_FILENO, text);
-    if !written {
-        os::fail(b"turnlist: standard output");
+fn write_text(rt: &(impl Print + Eprint), text: &[u8]) -> bool {
+    match rt.write_all(text) {
+        Ok(()) => true,
+        Err(e) => {
+            fail(rt, "standard output", e);
+            false
+        }
     }
-    written
 }
 
 // The one line of a refused file.
-fn write_refusal(number: u64) {
+fn write_refusal(rt: &(impl Print + Eprint), number: u64) {
     let l = lines::file_line(number);
     let bytes = l.bytes;
     let n = lines::length_of(l);
-    write_text(&bytes[..n]);
+    write_text(rt, &bytes[..n]);
 }
 
 // Writes the page that begins at line `from`, and answers how many lines it has: 0 where nothing more is to be written.
-fn write_page(file: &[u8], from: u64) -> u64
+fn write_page(rt: &(impl Print + Eprint), file: &[u8], from: u64) -> u64
     ensures { result ≤ longest_file }
 {
-    let mut out = io::large_buffer();
+    let mut out = page_room();
     match printout::print_page(file, from, &mut out) {
         Page::Lines { count, bytes } => {
-            if write_text(&out[..bytes as usize]) {
+            if write_text(rt, &out[..bytes as usize]) {
                 return count;
             }
         }
         Page::NoSuchLine => {}
-        Page::BadLength => write_refusal(12),
-        Page::TooManyQubits => write_refusal(1),
-        Page::BadEntry => write_refusal(13),
+        Page::BadLength => write_refusal(rt, 12),
+        Page::TooManyQubits => write_refusal(rt, 1),
+        Page::BadEntry => write_refusal(rt, 13),
     }
     0
 }
 
-fn write_pages(file: &[u8]) {
+fn write_pages(rt: &(impl Print + Eprint), file: &[u8]) {
     let mut from: u64 = 0;
     while from < MOST_LINES {
-        let count = write_page(file, from);
+        let count = write_page(rt, file, from);
         if count == 0 {
             return;
         }
@@ -71,14 +109,14 @@ fn write_pages(file: &[u8]) {
     }
 }
 
-fn main() {
+fn main(rt: HostRuntime) {
+    let mut input = rt.stdin();
     let mut file = file_room();
-    let n = io::read_full(STDIN_FILENO, &mut file);
+    let n = reading::read_full(&mut input, &mut file);
     if n < FILE_ROOM {
-        if !at_end() {
-            os::fail(b"turnlist: standard input");
+        if !whole(&rt, &mut input) {
             return;
         }
     }
-    write_pages(&file[..n]);
+    write_pages(&rt, &file[..n]);
 }

@@ -1,0 +1,32 @@
+// Input read until lent bytes are full.
+// Not in the source.
+#![tactic(auto)]
+
+ghost use Rattle.std.specs.Prelude.{◌≤◌, length};
+
+use std::io::Read;
+
+// How many bytes of buf a read filled: none where it failed.
+fn read_some<R: Read>(input: &mut R, buf: &mut [u8]) -> usize
+    ensures { result ≤ length buf.new }
+{
+    match input.read(buf) {
+        Ok(n) => n,
+        Err(_) => 0,
+    }
+}
+
+// Reads until buf is full, the input ends or a read fails, and answers how many bytes it put at the start of buf.
+pub fn read_full<R: Read>(input: &mut R, buf: &mut [u8]) -> usize
+    ensures { result ≤ length buf.new }
+{
+    let mut done = 0;
+    while done < buf.len() {
+        let n = read_some(input, &mut buf[done..]);
+        if n == 0 {
+            return done;
+        }
+        done += n;
+    }
+    done
+}
