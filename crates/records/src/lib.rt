@@ -3,7 +3,7 @@
 #![tactic(auto)]
 
 ghost use Rattle.std.specs.Prelude.{◌≡◌, true};
-ghost use Rattle.records.specs.Scores.{one_more_lem, counted_in};
+ghost use Rattle.records.specs.Scores.{one_more, counted_in};
 
 // Whether the words are the same.
 pub fn same(a: &[u64], b: &[u64]) -> bool
@@ -24,7 +24,7 @@ pub fn same(a: &[u64], b: &[u64]) -> bool
 
 // One more, as far as 64 bits go.
 pub fn more(x: u64) -> u64
-    ensures { result ≡ one_more_lem x }
+    ensures { result ≡ one_more x }
 {
     if x < u64::MAX { x + 1 } else { x }
 }
@@ -47,7 +47,7 @@ pub fn ended(t: Score) -> Score
 }
 
 pub fn one_unread(t: Score) -> Score
-    ensures { result ≡ record { agree = t.agree; differ = t.differ; unread = one_more_lem t.unread; ended = t.ended } }
+    ensures { result ≡ record { agree = t.agree; differ = t.differ; unread = one_more t.unread; ended = t.ended } }
 {
     let mut s = t;
     s.unread = more(s.unread);
