@@ -1,6 +1,6 @@
 /* Turn lists for Clifford layers: the calls by C's conventions, for C99 and C++.
  *
- * Link with target/staticlib/libcabi.a, which `rt staticlib cabi` writes (x86-64 Linux):
+ * Link with target/staticlib/libcabi.a, which `tools/build cabi` writes (x86-64 Linux):
  *
  *     cc -Iinclude program.c -Ltarget/staticlib -lcabi
  *

@@ -2,7 +2,7 @@
 -- Assumes nothing.
 use mathlib.Core.Path.{◌≡◌, refl}
 use mathlib.Core.Bool.{true, false}
-use mathlib.Core.List.{List, [], ◌∷◌, map, zip, zip_with}
+use mathlib.Core.List.{[], ◌∷◌, map, zip, zip_with}
 use lib.ListN.{length}
 use Rattle.binar.specs.Bits.{odd, bit, ◌⊕◌, weight, dot}
 use Rattle.blocks.specs.Matrices.{times, units, dots}

@@ -1,10 +1,10 @@
 -- The book is right: of every code of 16 bits it says the least length where the action is symplectic, and nothing where it is not.
 -- Assumes nothing.
 use mathlib.Core.Path.{◌≡◌, refl, sym, ap, ◌∙◌, subst}
-use mathlib.Core.Bool.{Bool, true, false, true≢false, ◌&&◌, and-eq-true_iff}
+use mathlib.Core.Bool.{Bool, true, false, true≢false, and-eq-true_iff}
 use mathlib.Core.List.{List, map}
 use mathlib.Core.Option.{Option, none, some}
-use Prim.Native.Nat.{ℕ, suc, ◌+◌, ◌^◌, ◌<◌}
+use Prim.Native.Nat.{ℕ, ◌+◌, ◌^◌, ◌<◌}
 use lib.Dec.{eqb}
 use lib.ListN.{length, length-map}
 use borrow.Author.Tests.{eqb-true}
@@ -25,7 +25,7 @@ use Rattle.two_qubits.specs.Book.{book}
 use Rattle.two_qubits.specs.Lookups.{length_in, Says}
 use Rattle.two_qubits.specs.inner.Rules.{Ascending, length_after, is_right}
 use Rattle.two_qubits.proofs.Codes.{rows_count, rows_lt, code_of_rows, code_lt, rows_of_code_lem, four_rows}
-use Rattle.two_qubits.proofs.Lookups.{In, Beside, beside, in_some, ascending}
+use Rattle.two_qubits.proofs.Lookups.{In, beside, in_some, ascending}
 use Rattle.two_qubits.proofs.Computed.{codes_ascend, all_right}
 use Rattle.two_qubits.proofs.Complete.{in_book}
 

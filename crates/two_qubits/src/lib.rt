@@ -3,7 +3,6 @@
 // Not in the source.
 #![tactic(auto)]
 
-
 // An entry of the book: the code of an action, and its least length.
 #[derive(Clone, Copy)]
 pub struct Entry {

@@ -3,7 +3,6 @@ use native.Mathlib.Omega.{arith}
 use Rattle.fixed_space.specs.FixedSpace.{fixed_reply}
 use Rattle.fixed_space.proofs.Replied.{Promised}
 use Rattle.cabi.proofs.Lent.{lent_counted}
-use borrow.Author.Rules.{rules}
 use Rattle.cabi.proofs.turnlist_fixed_space.Goals as goal
 
 pub returns : goal.returns

@@ -4,7 +4,6 @@ use Rattle.questions.specs.Replies.{Rebuilds}
 use Rattle.sheets.specs.Sheets.{gates_of}
 use Rattle.gates.specs.Sequences.{sequence_turns, gates_reply}
 use Rattle.cabi.proofs.Lent.{lent_counted}
-use borrow.Author.Rules.{rules}
 use Rattle.cabi.proofs.turnlist_gates.Goals as goal
 
 pub returns : goal.returns

@@ -3,7 +3,6 @@ use native.Mathlib.Omega.{arith}
 use Rattle.transvection.specs.Greedy.{greedy_reply}
 use Rattle.transvection.proofs.Replied.{Promised}
 use Rattle.cabi.proofs.Lent.{lent_counted}
-use borrow.Author.Rules.{rules}
 use Rattle.cabi.proofs.turnlist_greedy.Goals as goal
 
 pub returns : goal.returns

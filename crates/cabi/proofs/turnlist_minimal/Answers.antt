@@ -5,7 +5,6 @@ use Rattle.transvection_exact.specs.Minimal.{minimal_reply}
 use Rattle.transvection_exact.proofs.Answered.{Promised}
 use Rattle.transvection_exact.proofs.Replies.{minimal_refused}
 use Rattle.cabi.proofs.Lent.{lent_drawn}
-use borrow.Author.Rules.{rules}
 use Rattle.cabi.proofs.turnlist_minimal.Goals as goal
 
 pub returns : goal.returns

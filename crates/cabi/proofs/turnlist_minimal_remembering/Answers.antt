@@ -1,7 +1,6 @@
 -- `turnlist_minimal_remembering` answers as the call with a memory, and leaves a refused call's numbers as they were, by `lent_remembering`.
 use Rattle.transvection_exact.specs.Answers.{figures_of_lem}
 use Rattle.cabi.proofs.Lent.{lent_remembering}
-use borrow.Author.Rules.{rules}
 use Rattle.cabi.proofs.turnlist_minimal_remembering.Goals as goal
 
 pub returns : goal.returns

@@ -4,7 +4,6 @@ use Rattle.blocks.specs.Words.{rows_of_words}
 use Rattle.questions.specs.Replies.{Rebuilds}
 use Rattle.rebuild.specs.Rebuilds.{rebuild_reply}
 use Rattle.cabi.proofs.Lent.{lent_counted}
-use borrow.Author.Rules.{rules}
 use Rattle.cabi.proofs.turnlist_rebuild.Goals as goal
 
 pub returns : goal.returns

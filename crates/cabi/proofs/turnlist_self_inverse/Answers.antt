@@ -1,6 +1,5 @@
 -- `turnlist_self_inverse` answers as `clifford_to_transvections_self_inverse`, and leaves a refused call's number as it was, by `lent_self_inverse`.
 use Rattle.cabi.proofs.Lent.{lent_self_inverse}
-use borrow.Author.Rules.{rules}
 use Rattle.cabi.proofs.turnlist_self_inverse.Goals as goal
 
 pub returns : goal.returns

@@ -1,6 +1,5 @@
 -- `turnlist_shorter` answers as `choose`, and leaves a refused call's number as it was, by `lent_shorter`.
 use Rattle.cabi.proofs.Lent.{lent_shorter}
-use borrow.Author.Rules.{rules}
 use Rattle.cabi.proofs.turnlist_shorter.Goals as goal
 
 pub returns : goal.returns

@@ -1,9 +1,7 @@
 -- `entries_pass` holds that the entries before `i` pass.
 use mathlib.Core.Path.{◌≡◌, sym, ap, ◌∙◌}
-use mathlib.Core.Bool.{true}
-use Prim.Native.Nat.{◌+◌, ◌-◌, ◌≤◌}
+use Prim.Native.Nat.{◌+◌}
 use native.Mathlib.Omega.{arith}
-use borrow.Author.Tests.{not-true, not-false}
 use borrow.Author.Rules.{rules}
 use Rattle.job.specs.Files.{entries_pass_lem}
 use Rattle.job.proofs.Checks.{entries_none, entries_more, entries_refused}

@@ -1,12 +1,8 @@
 -- `entries_pass` holds that the entries before `i` pass.
-use mathlib.Core.Path.{◌≡◌, sym, ap, ◌∙◌}
+use mathlib.Core.Path.{◌≡◌}
 use mathlib.Core.Bool.{true}
-use Prim.Native.Nat.{◌+◌, ◌-◌, ◌≤◌}
-use native.Mathlib.Omega.{arith}
-use borrow.Author.Tests.{not-true, not-false}
-use borrow.Author.Rules.{rules}
+use Prim.Native.Nat.{◌-◌, ◌≤◌}
 use Rattle.job.specs.Files.{entries_pass_lem}
-use Rattle.job.proofs.Checks.{entries_none, entries_more, entries_refused}
 use Rattle.job.proofs.entries_pass.Given as goal
 
 abbrev pub invariant-loop-i : goal.invariant-loop-i

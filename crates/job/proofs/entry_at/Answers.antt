@@ -1,7 +1,6 @@
 -- `entry_at` reads four numbers, each of which fits its field; past the end of every file they are 0.
 use mathlib.Core.Path.{sym}
 use native.Mathlib.Omega.{arith}
-use borrow.Author.Rules.{rules}
 use Rattle.job.proofs.Entries.{entry_past, entry_read}
 use Rattle.job.proofs.entry_at.Goals as goal
 

@@ -2,8 +2,6 @@
 use mathlib.Core.Path.{◌≡◌, sym, ap, ◌∙◌}
 use mathlib.Core.Bool.{true, false}
 use native.Mathlib.Omega.{arith}
-use borrow.Author.Tests.{not-true, not-false}
-use borrow.Author.Rules.{rules}
 use Rattle.job.specs.Files.{entry_count_lem, entries_pass_lem}
 use Rattle.job.proofs.Checks.{file_short, file_long, file_cut, file_wide, file_entries}
 use Rattle.job.proofs.file_questions.Goals as goal

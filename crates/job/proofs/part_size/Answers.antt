@@ -1,6 +1,5 @@
 -- `part_size` multiplies by the size of an item.
 use mathlib.Core.Path.{sym}
-use borrow.Author.Rules.{rules}
 use Rattle.job.specs.Answers.{entry_of}
 use Rattle.job.proofs.Entries.{part_rows, part_gates}
 use Rattle.job.proofs.part_size.Goals as goal

@@ -1,13 +1,11 @@
 -- `action_rows` holds that the words before `k` are those of the part, by `words_more`.
 use mathlib.Core.List.{[]}
 use mathlib.Core.Path.{◌≡◌, refl, ◌∙◌}
-use Prim.Native.Nat.{◌*◌, ◌-◌, ◌≤◌}
+use Prim.Native.Nat.{◌*◌}
 use native.Mathlib.Omega.{arith}
-use lib.ListN.{length, take, length-set}
+use lib.ListN.{length-set}
 use borrow.Author.Rules.{rules}
-use Rattle.symplectic.specs.Sizes.{most_rows}
 use Rattle.numbers.specs.Numbers.{part}
-use Rattle.printout.specs.Printout.{words_of_bytes}
 use Rattle.printout.proofs.Words.{words_none, words_more}
 use Rattle.printout.proofs.action_rows.Goals as goal
 

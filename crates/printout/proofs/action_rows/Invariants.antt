@@ -1,14 +1,10 @@
 -- `action_rows` holds that the words before `k` are those of the part, by `words_more`.
-use mathlib.Core.List.{[]}
-use mathlib.Core.Path.{◌≡◌, refl, ◌∙◌}
+use mathlib.Core.Path.{◌≡◌}
 use Prim.Native.Nat.{◌*◌, ◌-◌, ◌≤◌}
-use native.Mathlib.Omega.{arith}
-use lib.ListN.{length, take, length-set}
-use borrow.Author.Rules.{rules}
+use lib.ListN.{length, take}
 use Rattle.symplectic.specs.Sizes.{most_rows}
 use Rattle.numbers.specs.Numbers.{part}
 use Rattle.printout.specs.Printout.{words_of_bytes}
-use Rattle.printout.proofs.Words.{words_none, words_more}
 use Rattle.printout.proofs.action_rows.Given as goal
 
 abbrev pub invariant-loop-k : goal.invariant-loop-k

@@ -11,7 +11,7 @@ returns-in-Min c =
     let named : s.which ≡ Min = search (rules, c.in-Min.is) in
     let told = call_named s.which Min named s.n s.rows.now s.out.now c.list.result c.list.new.out c.list.ensures.answered c.list.ensures.left in record {
       answered = told.0;
-      left = told.1
+      left = told.1;
     }
 
 pub returns-in-Greedy : goal.returns-in-Greedy
@@ -20,5 +20,5 @@ returns-in-Greedy c =
     let named : s.which ≡ Greedy = search (rules, c.in-Greedy.is) in
     let told = call_named s.which Greedy named s.n s.rows.now s.out.now c.list-in-Greedy.result c.list-in-Greedy.new.out c.list-in-Greedy.ensures.answered c.list-in-Greedy.ensures.left in record {
       answered = told.0;
-      left = told.1
+      left = told.1;
     }

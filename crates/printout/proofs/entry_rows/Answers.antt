@@ -4,7 +4,6 @@ use mathlib.Core.List.{List}
 use Prim.Native.Nat.{ℕ, ◌+◌, ◌-◌, ◌≤◌}
 use native.Mathlib.Omega.{arith}
 use lib.ListN.{length, take, drop, replicate}
-use borrow.Author.Rules.{rules}
 use Rattle.symplectic.specs.Sizes.{max_qubits, most_rows}
 use Rattle.gates.specs.Sequences.{table_reply}
 use Rattle.numbers.specs.Numbers.{part}

@@ -1,8 +1,7 @@
 -- `fill_page` lays the lines one by one: the page is filled up to line k, by `filled_laid`, and is whole where no line more fits.
 use mathlib.Core.Path.{◌≡◌, sym, ◌∙◌}
 use mathlib.Core.List.{[]}
-use mathlib.Core.Logic.{⊎_elim}
-use Prim.Native.Nat.{◌-◌, ◌*◌, ◌≤◌, ◌<◌}
+use Prim.Native.Nat.{◌-◌, ◌≤◌, ◌<◌}
 use native.Mathlib.Omega.{arith}
 use lib.ListN.{length}
 use borrow.Author.Rules.{rules}
@@ -11,7 +10,7 @@ use Rattle.lines.proofs.Cuts.{bytes_length}
 use Rattle.printout.specs.Printout.{file_lines}
 use Rattle.printout.specs.Pages.{page, page_reply}
 use Rattle.printout.proofs.Numbered.{file_lines_lem}
-use Rattle.printout.proofs.Filling.{rest, Filled, filled_none, filled_laid, filled_whole, filled_last, filled_full}
+use Rattle.printout.proofs.Filling.{rest, filled_none, filled_laid, filled_whole, filled_last, filled_full}
 use Rattle.printout.proofs.Paging.{replies, page_passed}
 use Rattle.printout.proofs.fill_page.Goals as goal
 use Rattle.printout.proofs.fill_page.Goals.{After-line_at-l, Start, else-loop-k-test, then-loop-k-test+then-out-used}
@@ -65,23 +64,23 @@ returns c =
     let at = c.loop-k in
     let f = at.invariant.1 in
     let there : c.args.from < length ls = omega (arith, lines (goal.at.returns c).Start, c.requires.2) in
-    let none : rest ls c.args.from out at.k at.used ≡ [] = 
-        elim c.loop-k-test.branch [
-          | else-loop-k-test w ↦ filled_last ls c.args.from out at.k at.used at.out f (omega (arith, lines (goal.at.returns c).Start, w.loop-k-test.false))
-          | then-loop-k-test+then-out-used w ↦
-              filled_full ls c.args.from out at.k at.used at.out f (omega (arith, lines (goal.at.returns c).Start, w.loop-k-test.true)) (bytes_of w.line_at-l.result) w.line_at-l.ensures
-              (omega (arith, w.length_of-size.ensures, w.if-out-used.true))
-        ] in
+    let none : rest ls c.args.from out at.k at.used ≡ [] =
+    elim c.loop-k-test.branch [
+      | else-loop-k-test w ↦ filled_last ls c.args.from out at.k at.used at.out f (omega (arith, lines (goal.at.returns c).Start, w.loop-k-test.false))
+      | then-loop-k-test+then-out-used w ↦
+          filled_full ls c.args.from out at.k at.used at.out f (omega (arith, lines (goal.at.returns c).Start, w.loop-k-test.true)) (bytes_of w.line_at-l.result) w.line_at-l.ensures
+          (omega (arith, w.length_of-size.ensures, w.if-out-used.true))
+    ] in
     let r = replies (page_reply c.args.file.now c.args.from out) (page (at.k - c.args.from) at.used) at.out
     (page_passed c.args.file.now c.args.from out c.requires.0 ∙ filled_whole ls c.args.from out at.k at.used at.out f there none) in
     let onward : line_room ≤ length out → 0 < at.k - c.args.from = λ h.
-        elim c.loop-k-test.branch [
-          | else-loop-k-test w ↦ omega (arith, c.requires.2, w.loop-k-test.false)
-          | then-loop-k-test+then-out-used w ↦
-              let long : length w.line_at-l.result.bytes ≡ line_room = search rules in
-              omega (arith, f.begun, f.long, at.invariant.2, bytes_length w.line_at-l.result long, w.length_of-size.ensures, w.if-out-used.true)
-        ] in record {
+    elim c.loop-k-test.branch [
+      | else-loop-k-test w ↦ omega (arith, c.requires.2, w.loop-k-test.false)
+      | then-loop-k-test+then-out-used w ↦
+          let long : length w.line_at-l.result.bytes ≡ line_room = search rules in
+          omega (arith, f.begun, f.long, at.invariant.2, bytes_length w.line_at-l.result long, w.length_of-size.ensures, w.if-out-used.true)
+    ] in record {
       answered = r.0;
       left = r.1;
-      onward = onward
+      onward = onward;
     }

@@ -1,7 +1,6 @@
 -- `print_page` refuses a file by the first question that is answered no, else fills the page, by `page_refused` and `page_past`.
 use mathlib.Core.Path.{◌≡◌, sym, ap, ◌∙◌}
 use native.Mathlib.Omega.{arith}
-use borrow.Author.Rules.{rules}
 use Rattle.job.specs.Answers.{number_of}
 use Rattle.job.specs.Files.{file_questions_lem}
 use Rattle.job.specs.declared.FileAnswer.{FileAnswer}
@@ -23,7 +22,7 @@ returns-in-BadLength c =
     (page_refused s.file.now s.from s.out.now 11 (number (goal.at.returns-in-BadLength c).After-file_questions BadLength c.in-BadLength.is)) in record {
       answered = r.0;
       left = r.1;
-      onward = λ h. tt
+      onward = λ h. tt;
     }
 
 pub returns-in-TooManyQubits : goal.returns-in-TooManyQubits
@@ -33,7 +32,7 @@ returns-in-TooManyQubits c =
     (page_refused s.file.now s.from s.out.now 0 (number (goal.at.returns-in-TooManyQubits c).After-file_questions TooManyQubits c.in-TooManyQubits.is)) in record {
       answered = r.0;
       left = r.1;
-      onward = λ h. tt
+      onward = λ h. tt;
     }
 
 pub returns-in-BadEntry : goal.returns-in-BadEntry
@@ -43,7 +42,7 @@ returns-in-BadEntry c =
     (page_refused s.file.now s.from s.out.now 12 (number (goal.at.returns-in-BadEntry c).After-file_questions BadEntry c.in-BadEntry.is)) in record {
       answered = r.0;
       left = r.1;
-      onward = λ h. tt
+      onward = λ h. tt;
     }
 
 pub returns-then-last-from : goal.returns-then-last-from
@@ -53,20 +52,19 @@ returns-then-last-from c =
     (page_past s.file.now s.from s.out.now (number (goal.at.returns-then-last-from c).After-file_questions Passed c.in-Passed.is) (omega (arith, file_lines_lem s.file.now, c.entry_count-last.ensures.0, c.if-last-from.true))) in record {
       answered = r.0;
       left = r.1;
-      onward = λ h. tt
+      onward = λ h. tt;
     }
 
 pub fill_page-requires : goal.fill_page-requires
-fill_page-requires c =
-    (
-      number (goal.at.fill_page-requires c).After-file_questions Passed c.in-Passed.is,
-      omega (arith, c.entry_count-last.ensures.0),
-      c.if-last-from.false,
-    )
+fill_page-requires c = (
+  number (goal.at.fill_page-requires c).After-file_questions Passed c.in-Passed.is,
+  omega (arith, c.entry_count-last.ensures.0),
+  c.if-last-from.false,
+)
 
 pub returns : goal.returns
 returns c = record {
-      answered = c.fill_page.ensures.answered;
-      left = c.fill_page.ensures.left;
-      onward = c.fill_page.ensures.onward
-    }
+  answered = c.fill_page.ensures.answered;
+  left = c.fill_page.ensures.left;
+  onward = c.fill_page.ensures.onward;
+}

@@ -1,8 +1,8 @@
 -- `product_in` makes the turns of the vectors in order, by `product_more`, from the identity.
-use mathlib.Core.Path.{◌≡◌, sym, ap, ◌∙◌}
-use Prim.Native.Nat.{◌+◌, ◌-◌, ◌≤◌, ◌<◌}
+use mathlib.Core.Path.{sym, ap, ◌∙◌}
+use Prim.Native.Nat.{◌+◌, ◌<◌}
 use native.Mathlib.Omega.{arith}
-use lib.ListN.{length, take}
+use lib.ListN.{length}
 use lib.Seq.{take_all}
 use Rattle.binar.specs.Rows.{val}
 use Rattle.blocks.specs.Words.{rows_of_words, rows_in_lem}

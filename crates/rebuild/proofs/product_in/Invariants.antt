@@ -1,19 +1,10 @@
 -- `product_in` makes the turns of the vectors in order, by `product_more`, from the identity.
-use mathlib.Core.Path.{◌≡◌, sym, ap, ◌∙◌}
-use Prim.Native.Nat.{◌+◌, ◌-◌, ◌≤◌, ◌<◌}
-use native.Mathlib.Omega.{arith}
+use mathlib.Core.Path.{◌≡◌}
+use Prim.Native.Nat.{◌-◌, ◌≤◌}
 use lib.ListN.{length, take}
-use lib.Seq.{take_all}
-use Rattle.binar.specs.Rows.{val}
 use Rattle.blocks.specs.Words.{rows_of_words, rows_in_lem}
-use Rattle.blocks.proofs.Values.{rows_count, rows_word}
 use Rattle.symplectic.specs.Sizes.{capped}
-use Rattle.actions.specs.Actions.{padded}
 use Rattle.symplectic.specs.Turns.{product}
-use Rattle.actions.proofs.Arrays.{padded_is}
-use Rattle.symplectic.proofs.Products.{product_nil, product_more, product_length}
-use Rattle.symplectic.proofs.Work.{identity_whole}
-use borrow.Author.Rules.{rules}
 use Rattle.rebuild.proofs.product_in.Given as goal
 
 abbrev pub invariant-loop-i : goal.invariant-loop-i

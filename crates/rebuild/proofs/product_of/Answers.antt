@@ -6,7 +6,6 @@ use lib.ListN.{replicate}
 use Rattle.symplectic.specs.Sizes.{most_rows}
 use Rattle.symplectic.proofs.Sizes.{capped_le}
 use Rattle.symplectic.proofs.Work.{room_in_lem, part_words, part_rows}
-use borrow.Author.Rules.{rules}
 use Rattle.rebuild.proofs.product_of.Goals as goal
 use Rattle.rebuild.proofs.product_of.Goals.{After-capped-k}
 

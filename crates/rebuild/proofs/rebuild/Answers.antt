@@ -3,7 +3,6 @@ use mathlib.Core.Path.{◌≡◌, sym, ap, ap₂, ◌∙◌}
 use mathlib.Core.List.{List}
 use Prim.Native.Nat.{ℕ, ◌+◌}
 use native.Mathlib.Omega.{arith}
-use borrow.Author.Tests.{not-true, not-false}
 use Rattle.blocks.specs.Words.{rows_of_words, laid}
 use Rattle.symplectic.specs.Turns.{product}
 use Rattle.symplectic.specs.Matches.{fit_all}
@@ -26,7 +25,7 @@ returns-then-n-gt-MAX_QUBITS c =
     let told = rebuild_1 s.n s.list.now s.out.now (search rules) in record {
       answered = told.0;
       left = told.1.0;
-      replays = told.1.1
+      replays = told.1.1;
     }
 
 pub returns-then-out-count : goal.returns-then-out-count
@@ -35,7 +34,7 @@ returns-then-out-count c =
     let told = rebuild_2 s.n s.list.now s.out.now (search rules) c.if-out-count.true in record {
       answered = told.0;
       left = told.1.0;
-      replays = told.1.1
+      replays = told.1.1;
     }
 
 pub returns-then-not-words_fit : goal.returns-then-not-words_fit
@@ -44,7 +43,7 @@ returns-then-not-words_fit c =
     let told = rebuild_8 s.n s.list.now s.out.now (search rules) (omega arith) (tested (goal.at.returns-then-not-words_fit c).After-words_fit ∙ c.if-not-words_fit.true) in record {
       answered = told.0;
       left = told.1.0;
-      replays = told.1.1
+      replays = told.1.1;
     }
 
 pub returns : goal.returns
@@ -57,5 +56,5 @@ returns c =
     (c.store.ensures ∙ ap₂ (λ (k : ℕ) (l : List ℕ). laid k l s.out.now) (made.0 ∙ e) (made.1 ∙ ap (λ (k : ℕ). product k (rows_of_words s.n s.list.now)) e)) in record {
       answered = told.0;
       left = told.1.0;
-      replays = told.1.1
+      replays = told.1.1;
     }

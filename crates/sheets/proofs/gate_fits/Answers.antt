@@ -1,12 +1,9 @@
 -- `gate_fits` passes the turns one by one, by `all_next`; one that does not fit fails the test, by `all_fails`.
 use mathlib.Core.Path.{◌≡◌, refl, sym, ap, ◌∙◌}
-use mathlib.Core.Bool.{true}
 use mathlib.Core.List.{List}
-use Prim.Native.Nat.{ℕ, ◌-◌, ◌≤◌, ◌<◌}
+use Prim.Native.Nat.{ℕ, ◌<◌}
 use native.Mathlib.Omega.{arith}
-use lib.ListN.{length, get_or, take}
-use borrow.Author.Tests.{not-true, not-false}
-use Rattle.numbers.specs.Numbers.{part}
+use lib.ListN.{length, get_or}
 use Rattle.numbers.proofs.Numbers.{part_length, part_at}
 use Rattle.symplectic.specs.Turns.{all_of}
 use Rattle.symplectic.proofs.Tests.{all_next, all_fails, all_end}

@@ -1,18 +1,13 @@
 -- `gate_fits` passes the turns one by one, by `all_next`; one that does not fit fails the test, by `all_fails`.
-use mathlib.Core.Path.{◌≡◌, refl, sym, ap, ◌∙◌}
+use mathlib.Core.Path.{◌≡◌}
 use mathlib.Core.Bool.{true}
 use mathlib.Core.List.{List}
-use Prim.Native.Nat.{ℕ, ◌-◌, ◌≤◌, ◌<◌}
-use native.Mathlib.Omega.{arith}
-use lib.ListN.{length, get_or, take}
-use borrow.Author.Tests.{not-true, not-false}
+use Prim.Native.Nat.{ℕ, ◌-◌, ◌≤◌}
+use lib.ListN.{take}
 use Rattle.numbers.specs.Numbers.{part}
-use Rattle.numbers.proofs.Numbers.{part_length, part_at}
 use Rattle.symplectic.specs.Turns.{all_of}
-use Rattle.symplectic.proofs.Tests.{all_next, all_fails, all_end}
-use borrow.Author.Rules.{rules}
 use Rattle.sheets.specs.declared.SheetLine.{SheetLine}
-use Rattle.sheets.specs.Sheets.{gate_of, turn_fits_lem, gate_fits_lem}
+use Rattle.sheets.specs.Sheets.{turn_fits_lem}
 use Rattle.sheets.proofs.gate_fits.Given as goal
 
 -- the turns of a line

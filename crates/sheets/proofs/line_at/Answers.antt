@@ -1,5 +1,4 @@
 -- `line_at` reads three numbers, each of which fits its field, by `line_read`.
-use borrow.Author.Rules.{rules}
 use Rattle.sheets.proofs.Lines.{line_read}
 use Rattle.sheets.proofs.line_at.Goals as goal
 

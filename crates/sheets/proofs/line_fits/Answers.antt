@@ -1,6 +1,5 @@
 -- `line_fits` asks the parts of the question in turn, by the laws of each.
 use native.Mathlib.Omega.{arith}
-use borrow.Author.Rules.{rules}
 use Rattle.sheets.proofs.Checks.{line_no_qubits, line_three_qubits, line_many_turns, line_ends}
 use Rattle.sheets.proofs.line_fits.Goals as goal
 

@@ -1,11 +1,8 @@
 -- `lines_fit` passes the lines one by one, by `all_next`; one that does not fit fails the test, by `all_fails`.
 use mathlib.Core.Path.{◌≡◌, refl, sym, ap, ◌∙◌}
-use mathlib.Core.Bool.{true}
-use Prim.Native.Nat.{◌-◌, ◌≤◌, ◌<◌}
+use Prim.Native.Nat.{◌<◌}
 use native.Mathlib.Omega.{arith}
-use lib.ListN.{length, get_or, take}
-use borrow.Author.Tests.{not-true, not-false}
-use Rattle.symplectic.specs.Turns.{all_of}
+use lib.ListN.{length, get_or}
 use Rattle.symplectic.proofs.Tests.{all_next, all_fails, all_end}
 use borrow.Author.Rules.{rules}
 use Rattle.sheets.specs.Sheets.{line, lines, line_fits_lem}

@@ -1,15 +1,10 @@
 -- `lines_fit` passes the lines one by one, by `all_next`; one that does not fit fails the test, by `all_fails`.
-use mathlib.Core.Path.{◌≡◌, refl, sym, ap, ◌∙◌}
+use mathlib.Core.Path.{◌≡◌}
 use mathlib.Core.Bool.{true}
-use Prim.Native.Nat.{◌-◌, ◌≤◌, ◌<◌}
-use native.Mathlib.Omega.{arith}
-use lib.ListN.{length, get_or, take}
-use borrow.Author.Tests.{not-true, not-false}
+use Prim.Native.Nat.{◌-◌, ◌≤◌}
+use lib.ListN.{take}
 use Rattle.symplectic.specs.Turns.{all_of}
-use Rattle.symplectic.proofs.Tests.{all_next, all_fails, all_end}
-use borrow.Author.Rules.{rules}
-use Rattle.sheets.specs.Sheets.{line, lines, line_fits_lem}
-use Rattle.sheets.proofs.Lines.{lines_length, line_in}
+use Rattle.sheets.specs.Sheets.{lines, line_fits_lem}
 use Rattle.sheets.proofs.lines_fit.Given as goal
 
 abbrev pub invariant-loop-g : goal.invariant-loop-g

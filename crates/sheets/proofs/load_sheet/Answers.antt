@@ -1,6 +1,5 @@
 -- `load_sheet` gives the lent sheet where it passes its questions, else the former one.
 use mathlib.Core.Path.{◌≡◌, sym, ◌∙◌}
-use borrow.Author.Rules.{rules}
 use Rattle.sheets.specs.Sheets.{sheet_questions_lem}
 use Rattle.sheets.proofs.Checks.{lent_in_force, former_in_force}
 use Rattle.sheets.proofs.load_sheet.Goals as goal
@@ -18,7 +17,7 @@ returns-then-asked-eq0 c =
       part = lent_in_force q s.lent.now s.former.now z;
       place = lent_in_force q s.lent.ref_ptr s.former.ref_ptr z;
       told = asked (goal.at.returns-then-asked-eq0 c).After-number_of-asked;
-      sound = λ sound. z
+      sound = λ sound. z;
     }
 
 pub returns : goal.returns
@@ -29,5 +28,5 @@ returns c =
       part = former_in_force q s.lent.now s.former.now refused;
       place = former_in_force q s.lent.ref_ptr s.former.ref_ptr refused;
       told = asked (goal.at.returns c).After-number_of-asked;
-      sound = λ sound. sound
+      sound = λ sound. sound;
     }

@@ -1,8 +1,6 @@
 -- `sheet_questions` asks the form of the whole sheet, then its turns.
 use mathlib.Core.Path.{◌≡◌, sym, ◌∙◌}
 use mathlib.Core.Bool.{true}
-use borrow.Author.Tests.{not-true, not-false}
-use borrow.Author.Rules.{rules}
 use Rattle.sheets.specs.Sheets.{well_formed_lem}
 use Rattle.sheets.proofs.Checks.{sheet_malformed, sheet_bad_turn, sheet_passed}
 use Rattle.sheets.proofs.sheet_questions.Goals as goal

@@ -2,7 +2,6 @@
 use mathlib.Core.Path.{◌≡◌, sym, ap, ap₂, ◌∙◌}
 use mathlib.Core.Bool.{Bool, not, ◌||◌}
 use native.Mathlib.Omega.{arith}
-use borrow.Author.Rules.{rules}
 use Rattle.binar.specs.Bits.{bit}
 use Rattle.sheets.proofs.Checks.{turn_zero, turn_high, turn_of_two, turn_of_one}
 use Rattle.sheets.proofs.turn_fits.Goals as goal

@@ -1,7 +1,6 @@
 -- `well_formed` asks the parts of the question in turn, by the laws of each.
 use mathlib.Core.Path.{◌≡◌, ◌∙◌}
 use native.Mathlib.Omega.{arith}
-use borrow.Author.Rules.{rules}
 use Rattle.sheets.specs.Sheets.{gate_count_lem}
 use Rattle.sheets.proofs.Checks.{form_none, form_many, form_cut, form_lines}
 use Rattle.sheets.proofs.well_formed.Goals as goal

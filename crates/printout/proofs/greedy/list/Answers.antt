@@ -1,6 +1,5 @@
 -- `greedy::list` gives the figures of the greedy call's answer.
 use mathlib.Core.Path.{◌∙◌}
-use borrow.Author.Rules.{rules}
 use Rattle.printout.proofs.greedy.list.Goals as goal
 
 pub returns : goal.returns

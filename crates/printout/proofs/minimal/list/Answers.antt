@@ -1,6 +1,5 @@
 -- `minimal::list` gives the figures of the minimal call's answer, with the program's budget.
 use mathlib.Core.Path.{◌∙◌}
-use borrow.Author.Rules.{rules}
 use Rattle.printout.proofs.minimal.list.Goals as goal
 
 pub returns : goal.returns
