@@ -1,9 +1,14 @@
--- What was read lies within the lent bytes.
-use Rattle.std.proofs.Common.{length, ◌-◌, ◌≤◌}
+-- What was read lies within the lent bytes, and is what the input gave.
+use Rattle.std.proofs.Common.{length, take, ◌≡◌, ◌-◌, ◌≤◌}
+use Rattle.std.specs.Io.KnownBytes.{Consumes}
 use Rattle.reading.proofs.read_full.Given as goal
 
 abbrev pub invariant-loop-done : goal.invariant-loop-done
-invariant-loop-done g l = l.done ≤ length l.buf
+invariant-loop-done g l = record {
+  same : length l.buf ≡ length l.initial.buf;
+  within : l.done ≤ length l.buf;
+  bytes : Consumes (g.R.Read.remaining l.initial.input) (g.R.Read.remaining l.input) (take l.done l.buf);
+}
 
 abbrev pub decreases-loop-done : goal.decreases-loop-done
 decreases-loop-done g l = length l.initial.buf - l.done
