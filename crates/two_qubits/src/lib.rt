@@ -1,5 +1,4 @@
-// Nothing runs here: the two-qubit actions, each a code of 16 bits, and the book of all 720 with their least lengths. Its code is the
-// crate book.
+// Nothing runs here: the two-qubit actions, each a code of 16 bits, and the book of all 720 with their least lengths.
 // Not in the source.
 #![tactic(auto)]
 
