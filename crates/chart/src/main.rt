@@ -61,7 +61,7 @@ fn write_chart(rt: &impl Print) -> io::Result<()> {
     written(rt, row(Letter::Z))
 }
 
-// Says on standard error why the chart was not written.
+// Writes the chart; where that fails, says on standard error why.
 fn main(rt: HostRuntime) -> io::Result<()> {
     if let Err(e) = write_chart(&rt) {
         eprintln!(rt; "chart: standard output: {e}")?;
