@@ -1,4 +1,4 @@
--- The values of rows in an array; the rows of an action, how many there are, and an array whose rows are written one by one from the start.
+-- The values of rows in an array; the rows of an action, how many there are, compared with those of another, and taken from lent words.
 -- Assumes nothing.
 use mathlib.Core.Path.{◌≡◌, refl, sym, ap, ap₂, ◌∙◌}
 use mathlib.Core.List.{List, [], ◌∷◌, ◌++◌}
@@ -11,7 +11,14 @@ use Rattle.binar.specs.declared.Row.{Row}
 use Rattle.binar.specs.Rows.{val}
 use Rattle.binar.specs.inner.Blank.{blank}
 use Rattle.binar.proofs.Widths.{val_blank}
+use Rattle.binar.proofs.Orders.{rows_eq}
+use Rattle.binar.specs.contracts.RowPartialEq.TheImpl.{eq-value}
+use lib.Pointwise.{pointwise}
+use mathlib.Core.Bool.{◌&&◌}
+use Rattle.symplectic.specs.Matches.{same_rows}
 use Rattle.blocks.proofs.Overs.{over_more}
+use Rattle.blocks.proofs.Values.{rows_are}
+use Rattle.blocks.specs.Words.{rows_of_words}
 use Rattle.actions.specs.declared.Action.{Action}
 use Rattle.symplectic.specs.Sizes.{max_qubits, most_rows, capped}
 use Rattle.actions.specs.Actions.{vals, qubits, matrix, padded}
@@ -59,6 +66,29 @@ pub matrix_get : (a : Action) (i : ℕ) → i < qubits a + qubits a → val (get
 unfolding matrix
 matrix_get a i h = vals_get a.rows i ∙ sym (get_or-take (qubits a + qubits a) (vals a.rows) i 0 h)
 
+-- ---- rows compared
+
+-- one by one, as the code does it
+compared : (xs ys : List Row) → pointwise eq-value.it xs ys ≡ same_rows (vals xs) (vals ys)
+unfolding vals
+compared [] [] = refl
+compared [] (y ∷ ys) = refl
+compared (x ∷ xs) [] = refl
+compared (x ∷ xs) (y ∷ ys) = ap₂ ◌&&◌ (rows_eq x y) (compared xs ys)
+
+vals_take : (k : ℕ) (l : List Row) → vals (take k l) ≡ take k (vals l)
+unfolding vals
+vals_take zero l = refl
+vals_take (suc k) [] = refl
+vals_take (suc k) (x ∷ l) = ap (λ (m : List ℕ). val x ∷ m) (vals_take k l)
+
+-- the rows of two actions on as many qubits
+pub compared_rows : (a b : Action) (n : ℕ) → n ≡ capped a.n → n ≡ capped b.n → pointwise eq-value.it (take (n + n) a.rows) (take (n + n) b.rows) ≡ same_rows (matrix a) (matrix b)
+unfolding matrix qubits
+compared_rows a b n p q =
+    compared (take (n + n) a.rows) (take (n + n) b.rows)
+    ∙ ap₂ same_rows (vals_take (n + n) a.rows ∙ ap (λ (k : ℕ). take (k + k) (vals a.rows)) p) (vals_take (n + n) b.rows ∙ ap (λ (k : ℕ). take (k + k) (vals b.rows)) q)
+
 -- ---- rows m written over the rows l, up to i
 
 -- one row more
@@ -87,6 +117,10 @@ pads (x ∷ w) (suc m) (suc k) j (suc i) h g e =
 pub padded_rows : (w : List ℕ) (m k i : ℕ) → k ≤ m → i ≡ min (length w) m → take k (take i w ++ drop i (replicate m 0)) ≡ padded k w
 unfolding padded
 padded_rows w m k i h e = pads w m k k i h (omega arith) e
+
+-- lent words hold the same rows on each number of qubits
+pub rows_any : (n m : ℕ) (w : List ℕ) → rows_of_words m w ≡ rows_of_words n w
+rows_any n m w = rows_are m w ∙ sym (rows_are n w)
 
 -- exactly as many words as there are rows
 pub padded_is : (m : ℕ) (w : List ℕ) → length w ≡ m → padded m w ≡ w

@@ -22,34 +22,18 @@ pub struct Action {
 pub fn from_rows(n: u64, w: &[u64]) -> Action
     ensures { (qubits result ≡ capped_of n) × (matrix result ≡ padded (capped_of n + capped_of n) (rows_in_lem w.now)) }
 {
-    let z = binar::zero();
-    let mut a = Action {
-        n: n,
-        rows: [z; MOST_ROWS],
-    };
-    let count = blocks::lesser(blocks::rows_in(w), MOST_ROWS);
-    for i in 0..count {
-        let v = blocks::row(w, i);
-        a.rows[i] = v;
-    }
-    a
+    from_words(n, w)
 }
 
 // The action that lent words hold.
 pub fn from_words(n: u64, words: &[u64]) -> Action
     ensures { (qubits result ≡ capped_of n) × (matrix result ≡ padded (capped_of n + capped_of n) (rows_of_words n words.now)) }
 {
-    let z = binar::zero();
-    let mut a = Action {
-        n: n,
-        rows: [z; MOST_ROWS],
-    };
-    let count = blocks::lesser(words.len(), MOST_ROWS);
-    for i in 0..count {
-        let v = binar::of_word(words[i]);
-        a.rows[i] = v;
+    let mut rows = [Row::zero(); MOST_ROWS];
+    for i in 0..words.len().min(MOST_ROWS) {
+        rows[i] = Row::from(words[i]);
     }
-    a
+    Action { n: n, rows: rows }
 }
 
 // The action's rows laid into lent words.
@@ -57,10 +41,9 @@ pub fn store(a: Action, out: &mut [u64])
     ensures { out.new ≡ laid (qubits a) (matrix a) out.old }
 {
     let n = symplectic::capped(a.n);
-    let count = blocks::lesser(n + n, out.len());
+    let count = (n + n).min(out.len());
     for i in 0..count {
-        let u = a.rows[i];
-        out[i] = blocks::word(u);
+        out[i] = blocks::word(a.rows[i]);
     }
 }
 
@@ -69,14 +52,5 @@ pub fn same_rows(a: Action, b: Action) -> bool
     ensures { result ≡ same_rows (matrix a) (matrix b) }
 {
     let n = symplectic::capped(a.n);
-    if symplectic::capped(b.n) != n {
-        return false;
-    }
-    let count = n + n;
-    for i in 0..count {
-        if !binar::equal(a.rows[i], b.rows[i]) {
-            return false;
-        }
-    }
-    true
+    symplectic::capped(b.n) == n && a.rows[..n + n] == b.rows[..n + n]
 }

@@ -11,8 +11,7 @@ fn print_answer(rt: &impl Print, name: &str, a: Figures) -> io::Result<()> {
 }
 
 fn print_rows(rt: &impl Print, rows: &[u64]) -> io::Result<()> {
-    for i in 0..rows.len() {
-        let row = rows[i];
+    for row in rows {
         print!(rt; " {row}")?;
     }
     Ok(())
@@ -23,7 +22,7 @@ fn rebuild_empty(rt: &impl Print, name: &str, n: u64) -> io::Result<()> {
     let list = [0u64; 0];
     let mut out = [0u64; 64];
     let a = rebuild::rebuild(n, &list, &mut out);
-    print_answer(rt, name, rebuild::figures_of(a))?;
+    print_answer(rt, name, questions::figures_of(a))?;
     println!(rt)
 }
 
@@ -31,7 +30,7 @@ fn rebuild_empty(rt: &impl Print, name: &str, n: u64) -> io::Result<()> {
 fn greedy_identity(rt: &impl Print, name: &str, out: &mut [u64]) -> io::Result<()> {
     let list = [0u64; 0];
     let mut rows = [0u64; 64];
-    rebuild::rebuild(32, &list, &mut rows);
+    let _ = rebuild::rebuild(32, &list, &mut rows);
     let a = transvection::clifford_to_transvections(32, &rows, out);
     print_answer(rt, name, questions::figures_of(a))?;
     println!(rt)
@@ -41,7 +40,7 @@ fn greedy_identity(rt: &impl Print, name: &str, out: &mut [u64]) -> io::Result<(
 fn sequence(rt: &impl Print, name: &str, bytes: &[u8]) -> io::Result<()> {
     let mut out = [0u64; 4];
     let sheet = sheets::six_gates();
-    let a = gates::figures_of(gates::gate_action(2, &sheet, bytes, &mut out));
+    let a = questions::figures_of(gates::gate_action(2, &sheet, bytes, &mut out));
     print_answer(rt, name, a)?;
     if a.number == 0 {
         print_rows(rt, &out)?;
@@ -84,8 +83,7 @@ fn minimals(rt: &impl Print) -> io::Result<()> {
 }
 
 fn print_first(rt: &impl Print, k: usize, rows: &[u64]) -> io::Result<()> {
-    let n = blocks::lesser(k, rows.len());
-    print_rows(rt, &rows[..n])
+    print_rows(rt, &rows[..k.min(rows.len())])
 }
 
 // The reduction of the residue of an action on 2 qubits, which has 4 rows and 4 columns.

@@ -4,3 +4,4 @@ pub mod Dots
 pub mod Ones
 pub mod Widths
 pub mod Counting
+pub mod Orders

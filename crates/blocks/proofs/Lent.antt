@@ -6,8 +6,9 @@ use Prim.Native.Nat.{ℕ, zero, suc, ◌+◌, ◌-◌, ◌≤◌, min}
 use native.Mathlib.Nat.{le_refl}
 use native.Mathlib.Omega.{arith}
 use lib.ListN.{length, take, drop, length-drop, length-take, drop_of_length-le}
-use lib.Seq.{take_all}
-use Rattle.blocks.specs.Words.{rows_of_words, rows_in_lem, words_for}
+use lib.Seq.{take_all, take-take}
+use Rattle.blocks.specs.Words.{rows_of_words, rows_in_lem, words_for, over}
+use Rattle.blocks.proofs.Overs.{over_end}
 use Rattle.blocks.proofs.Values.{take_counted}
 
 -- ---- parts: `to` is where row k begins
@@ -60,6 +61,14 @@ words_mono i j h = h
 pub lent_few : (ws : List ℕ) → length (rows_in_lem ws) ≤ length ws
 unfolding rows_of_words
 lent_few ws = le_refl (length ws)
+
+-- the words of the first k rows copied over others
+pub lent_copied : (k to : ℕ) (ws out : List ℕ) → to ≡ min (min (words_for k) (length ws)) (length out)
+    → rows_in_lem (take to ws ++ drop to out) ≡ over (take k (rows_in_lem ws)) (rows_in_lem out)
+unfolding rows_of_words words_for
+lent_copied k to ws out e =
+    ap (λ (x : List ℕ). x ++ drop to out) (sym (take-take to k ws (omega arith)))
+    ∙ over_end (take k ws) out to (omega (arith, length-take k ws))
 
 -- as many rows in as many words
 pub lent_same : (a b : List ℕ) → length a ≡ length b → length (rows_in_lem a) ≡ length (rows_in_lem b)

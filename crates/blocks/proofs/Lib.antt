@@ -5,3 +5,4 @@ pub mod Values
 pub mod Firsts
 pub mod Lent
 pub mod Overs
+pub mod Ranges

@@ -130,6 +130,10 @@ pub rows_count : (n : ℕ) (ws : List ℕ) → length (rows_of_words n ws) ≡ l
 unfolding rows_of_words
 rows_count n ws = refl
 
+pub rows_are : (n : ℕ) (ws : List ℕ) → rows_of_words n ws ≡ ws
+unfolding rows_of_words
+rows_are n ws = refl
+
 pub rows_word : (n : ℕ) (ws : List ℕ) (i : ℕ) → get_or (rows_of_words n ws) i 0 ≡ get_or ws i 0
 unfolding rows_of_words
 rows_word n ws i = refl

@@ -1,6 +1,6 @@
 // Blocks of rows: rows in lent words.
 // In the source: the crate binar, whose bit matrices these stand for.
-#![tactic(auto)]
+#![tactic(auto, unfolding(crate::specs::Words::rows_of_words, crate::specs::Words::words_for, crate::specs::Words::word_of))]
 
 ghost use Rattle.std.specs.Prelude.{◌≡◌, min, length, get_or, set};
 ghost use Rattle.binar.specs.Rows.{val};
@@ -8,17 +8,11 @@ ghost use Rattle.blocks.specs.Words.{word_of, rows_in_lem, words_for};
 
 use binar::Row;
 
-pub fn lesser(m: usize, n: usize) -> usize
-    ensures { result ≡ min m n }
-{
-    if m < n { m } else { n }
-}
-
 // The word that a row takes.
 pub fn word(a: Row) -> u64
     ensures { result ≡ word_of (val a) }
 {
-    binar::word_of(a)
+    a.word()
 }
 
 // How many rows words that are lent for work hold.
@@ -32,17 +26,16 @@ pub fn rows_in(w: &[u64]) -> usize
 pub fn start(w: &[u64], k: usize) -> usize
     ensures { result ≡ min (words_for k) (length w.now) }
 {
-    lesser(k, w.len())
+    k.min(w.len())
 }
 
 // Row i of such words; zero where they hold fewer.
 pub fn row(w: &[u64], i: usize) -> Row
     ensures { val result ≡ get_or (rows_in_lem w.now) i 0 }
 {
-    if i < w.len() {
-        binar::of_word(w[i])
-    } else {
-        binar::zero()
+    match w.get(i) {
+        Some(word) => Row::from(*word),
+        None => Row::zero(),
     }
 }
 
@@ -51,6 +44,6 @@ pub fn put(w: &mut [u64], i: usize, v: Row)
     ensures { rows_in_lem w.new ≡ set (rows_in_lem w.old) i (val v) }
 {
     if i < w.len() {
-        w[i] = binar::word_of(v);
+        w[i] = v.word();
     }
 }

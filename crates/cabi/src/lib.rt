@@ -135,7 +135,7 @@ pub extern "C" fn turnlist_self_inverse(
     ensures seventeen { Seventeen n rows.now out.old (read_figures 0 result count.new 0) }
 {
     let answer = self_inverse::clifford_to_transvections_self_inverse(n, rows, out);
-    let listed = self_inverse::figures_of(answer);
+    let listed = questions::figures_of(answer);
     questions::tell(listed.number, listed.count, count);
     listed.number
 }
@@ -149,7 +149,7 @@ pub extern "C" fn turnlist_rebuild(n: u64, vectors: &[u64], out: &mut [u64], cou
     ensures replays { Rebuilds n (rows_of_words n vectors.now) out.new (read_figures 0 result count.new 0) }
 {
     let answer = rebuild::rebuild(n, vectors, out);
-    let product = rebuild::figures_of(answer);
+    let product = questions::figures_of(answer);
     questions::tell(product.number, product.count, count);
     product.number
 }
@@ -181,7 +181,7 @@ pub extern "C" fn turnlist_shorter(
 pub extern "C" fn turnlist_sheet(sheet: &[u8]) -> u64
     ensures { result ≡ sheet_questions_lem sheet.now }
 {
-    sheets::number_of(sheets::sheet_questions(sheet))
+    questions::asked_number(sheets::sheet_questions(sheet))
 }
 
 // The action of a gate sequence, three bytes a gate, with the sheet in force.
@@ -199,7 +199,7 @@ pub extern "C" fn turnlist_gates(
     ensures replays { Rebuilds n (sequence_turns n (gates_of sheet.now) gates.now) out.new (read_figures 0 result count.new 0) }
 {
     let answer = gates::gate_action(n, sheet, gates, out);
-    let action = gates::figures_of(answer);
+    let action = questions::figures_of(answer);
     questions::tell(action.number, action.count, count);
     action.number
 }

@@ -2,7 +2,7 @@
 // Not in the source.
 #![tactic(auto)]
 
-ghost use Rattle.std.specs.Prelude.{◌≡◌, ◌+◌};
+ghost use Rattle.std.specs.Prelude.{◌≡◌, ◌+◌, slice_index};
 ghost use Rattle.binar.specs.Bits.{digit as digit_of};
 ghost use Rattle.chart.specs.inner.Chart.{line as line_of, heading as heading_of, row as row_of};
 
@@ -13,6 +13,9 @@ use std::io::Print;
 // How many bytes a line has: five columns, each with a byte behind it.
 const LINE: usize = 10;
 
+// The letters in the order of their columns, and of their lines.
+const LETTERS: [Letter; 4] = [Letter::I, Letter::X, Letter::Y, Letter::Z];
+
 // A bit as it is printed.
 fn digit(b: bool) -> u8
     ensures { result ≡ 48 + digit_of b }
@@ -21,44 +24,35 @@ fn digit(b: bool) -> u8
 }
 
 // What stands in front, then the columns of I, X, Y and Z.
-fn line(front: u8, i: u8, x: u8, y: u8, z: u8) -> [u8; LINE]
-    ensures { result ≡ line_of front i x y z }
+fn line(front: u8, columns: [u8; 4]) -> [u8; LINE]
+    ensures { result ≡ line_of front (slice_index columns 0) (slice_index columns 1) (slice_index columns 2) (slice_index columns 3) }
 {
+    let [i, x, y, z] = columns;
     [front, b' ', i, b' ', x, b' ', y, b' ', z, b'\n']
 }
 
 // The letters, each over its column.
+#[tactic(auto, unfolding(crate::specs::inner::Chart::heading))]
 fn heading() -> [u8; LINE]
     ensures { result ≡ heading_of }
 {
-    let i = letters::byte(Letter::I);
-    let x = letters::byte(Letter::X);
-    let y = letters::byte(Letter::Y);
-    let z = letters::byte(Letter::Z);
-    line(b' ', i, x, y, z)
+    line(b' ', LETTERS.map(u8::from))
 }
 
 // A letter, and what it pairs to with each.
+#[tactic(auto, unfolding(crate::specs::inner::Chart::row))]
 fn row(a: Letter) -> [u8; LINE]
     ensures { result ≡ row_of a }
 {
-    let i = digit(letters::chart(a, Letter::I));
-    let x = digit(letters::chart(a, Letter::X));
-    let y = digit(letters::chart(a, Letter::Y));
-    let z = digit(letters::chart(a, Letter::Z));
-    line(letters::byte(a), i, x, y, z)
-}
-
-fn written(rt: &impl Print, line: [u8; LINE]) -> io::Result<()> {
-    rt.write_all(&line)
+    line(u8::from(a), LETTERS.map(|b| digit(letters::chart(a, b))))
 }
 
 fn write_chart(rt: &impl Print) -> io::Result<()> {
-    written(rt, heading())?;
-    written(rt, row(Letter::I))?;
-    written(rt, row(Letter::X))?;
-    written(rt, row(Letter::Y))?;
-    written(rt, row(Letter::Z))
+    rt.write_all(&heading())?;
+    for a in LETTERS {
+        rt.write_all(&row(a))?;
+    }
+    Ok(())
 }
 
 // Writes the chart; where that fails, says on standard error why.

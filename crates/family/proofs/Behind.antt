@@ -1,22 +1,17 @@
 -- Rows of which the first have been put, and rows put behind the first.
 -- Assumes nothing.
-use mathlib.Core.Path.{◌≡◌, sym, ap, ap₂, ◌∙◌}
+use mathlib.Core.Path.{◌≡◌, ap, ◌∙◌}
 use mathlib.Core.List.{List, [], ◌∷◌, ◌++◌}
-use Prim.Native.Nat.{ℕ, ◌+◌, ◌≤◌, ◌<◌}
+use Prim.Native.Nat.{ℕ, ◌+◌, ◌<◌}
 use native.Mathlib.Omega.{arith}
 use lib.ListN.{length, set, take, drop, length-set}
 use lib.Seq.{take_all, take_at, append_snoc}
-use Rattle.blocks.specs.Words.{over}
-use Rattle.blocks.proofs.Overs.{over_front}
 use Rattle.blocks.proofs.Values.{set_next}
 
 -- all have been put
 pub put_all : (rows out x : List ℕ) (n k : ℕ) → n ≡ k → length rows ≡ k → x ≡ take n rows ++ drop n out → take k x ≡ rows
 put_all rows out x n k e h is =
     ap (take k) (is ∙ ap (λ (m : List ℕ). m ++ drop n out) (take_all n rows (omega arith))) ∙ take_at rows (drop n out) k h
-
-pub over_all : (rows out x : List ℕ) (k : ℕ) → x ≡ over rows out → length rows ≡ k → k ≤ length out → take k x ≡ rows
-over_all rows out x k is e h = ap₂ take (sym e) is ∙ over_front rows out (omega arith)
 
 -- two more
 pub two_put : (l : List ℕ) (n u w : ℕ) → n + 1 < length l → take (n + 2) (set (set l n u) (n + 1) w) ≡ take n l ++ (u ∷ w ∷ [])

@@ -4,20 +4,20 @@ use mathlib.Core.Path.{◌≡◌, refl, sym, ap, ap₂, ◌∙◌}
 use mathlib.Core.Bool.{Bool, true, false, not, beq}
 use mathlib.Core.List.{List}
 use mathlib.Core.Option.{Option, none, some}
+use Rattle.std.specs.Prelude.{Option as Answer, Some, None, MatchOption}
 use Prim.Native.Nat.{ℕ, ◌≤◌, ◌<◌}
 use lib.ListN.{length, get_or, take, length-take}
 use lib.Seq.{get_or-take}
 use native.Mathlib.Omega.{arith}
-use Rattle.binar.specs.declared.Row.{Row}
 use Rattle.binar.specs.Bits.{◌⊻◌, ◌⊕◌, dot}
 use Rattle.binar.specs.Rows.{val}
 use Rattle.blocks.specs.Matrices.{times, matmul}
 use Rattle.blocks.proofs.Products.{times_sum, matmul_length}
-use Rattle.symplectic.specs.Picks.{map_some}
+use Rattle.symplectic.specs.Picks.{map_some, first_one_lem, first_uneven_lem, pick}
+use Rattle.symplectic.proofs.FirstPicks.{pick_of_one, pick_of_uneven}
 use Rattle.residue.specs.Residue.{form}
 use Rattle.triangular.proofs.Cores.{core_row, form_dot}
 use Rattle.family.specs.declared.Picked.{Picked}
-use Rattle.family.specs.declared.Picked.TheVariants.{Vector, Nothing}
 use Rattle.family.specs.inner.Parts.{beside_row, picked_of}
 
 -- two bits that differ
@@ -60,20 +60,24 @@ pub sum_picked : (E : List ℕ) (v r x y f g : ℕ) (w : Option ℕ) → v ≡ x
 sum_picked E v r x y f g w e d a b is = vector_picked E v r (x ⊕ y) w e (d ∙ ap₂ ◌⊕◌ a b ∙ sym (times_sum E x y)) is
 
 -- a picked value that is a vector, and one that is none
-module _ (E : List ℕ) (p : Picked) (w : Option ℕ) (is : picked_of p ≡ map_some (beside_row E) w) where
-  pub picked_vector : (m r : Row) → p ≡ Vector m r → (w ≡ some (val m)) × (val r ≡ times (val m) E)
-  picked_vector m r e = by w (sym (ap picked_of e) ∙ is)
-    where
-      by : (o : Option ℕ) → some (val m, val r) ≡ map_some (beside_row E) o → (o ≡ some (val m)) × (val r ≡ times (val m) E)
-      by none d = let z : ◌≡◌ {A = ℕ} 0 1 = cc in absurd (omega arith)
-      by (some x) d =
-          let both : ◌≡◌ {A = ℕ × ℕ} (val m, val r) (x, times x E) = cc in
-          let same : x ≡ val m = sym (ap (λ (q : ℕ × ℕ). q.0) both) in
-          (ap some same, ap (λ (q : ℕ × ℕ). q.1) both ∙ ap (λ y. times y E) same)
+module _ (E : List ℕ) where
+  pub picked_vector : (p : Picked) (w : Option ℕ) → picked_of (Some p) ≡ map_some (beside_row E) w → (w ≡ some (val p.member)) × (val p.row ≡ times (val p.member) E)
+  picked_vector p none d = let z : ◌≡◌ {A = ℕ} 0 1 = cc in absurd (omega arith)
+  picked_vector p (some x) d =
+      let both : ◌≡◌ {A = ℕ × ℕ} (val p.member, val p.row) (x, times x E) = cc in
+      let same : x ≡ val p.member = sym (ap (λ (q : ℕ × ℕ). q.0) both) in
+      (ap some same, ap (λ (q : ℕ × ℕ). q.1) both ∙ ap (λ y. times y E) same)
 
-  pub picked_nothing : p ≡ Nothing → w ≡ none
-  picked_nothing e = by w (sym (ap picked_of e) ∙ is)
-    where
-      by : (o : Option ℕ) → none ≡ map_some (beside_row E) o → o ≡ none
-      by none d = refl
-      by (some x) d = let z : ◌≡◌ {A = ℕ} 0 1 = cc in absurd (omega arith)
+  pub picked_nothing : (w : Option ℕ) → picked_of None ≡ map_some (beside_row E) w → w ≡ none
+  picked_nothing none d = refl
+  picked_nothing (some x) d = let z : ◌≡◌ {A = ℕ} 0 1 = cc in absurd (omega arith)
+
+  -- the first choice where it is made, else the second
+  pub either_picked : (B : List ℕ) (first later : Answer Picked) {N : Type 0} → picked_of first ≡ map_some (beside_row E) (first_one_lem ◌⊕◌ (form E) B)
+      → MatchOption first N (λ p. later ≡ Some p) → (N → picked_of later ≡ map_some (beside_row E) (first_uneven_lem ◌⊕◌ (form E) B))
+      → picked_of later ≡ map_some (beside_row E) (pick ◌⊕◌ (form E) B)
+  either_picked B None later is m second =
+      second m ∙ ap (map_some (beside_row E)) (sym (pick_of_uneven ◌⊕◌ (form E) B (picked_nothing (first_one_lem ◌⊕◌ (form E) B) is)))
+  either_picked B (Some p) later is m second =
+      let found = (picked_vector p (first_one_lem ◌⊕◌ (form E) B) is).0 in
+      ap picked_of m ∙ is ∙ ap (map_some (beside_row E)) (found ∙ sym (pick_of_one ◌⊕◌ (form E) B (val p.member) found))

@@ -54,13 +54,6 @@ pub record Left (E : ℕ → ℕ → Bool) (whole : Option (List ℕ)) (vs bs : 
   pub left : map_some (behind vs) (map_some vectors (bordered_family_lem E depth bs)) ≡ whole
 
 module _ (E : ℕ → ℕ → Bool) where
-  pub family_begun : (n : ℕ) (bs : List ℕ) → length bs ≤ n → Left E (map_some vectors (bordered_family_lem E n bs)) [] bs
-  family_begun n bs h = record { depth = n; deep = h; left = same (map_some vectors (bordered_family_lem E n bs)) }
-    where
-      same : (w : Option (List ℕ)) → map_some (λ l. l) w ≡ w
-      same none = refl
-      same (some l) = refl
-
   pick_nil : (bs : List ℕ) (p : ℕ) → length bs ≤ 0 → pick ◌⊕◌ E bs ≡ some p → ⊥
   pick_nil bs p h e =
       let none-picked = pick_of_uneven ◌⊕◌ E bs (first_one_end ◌⊕◌ E bs 0 0 h) ∙ first_uneven_end ◌⊕◌ E bs 0 0 h in

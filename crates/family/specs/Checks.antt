@@ -4,7 +4,7 @@
 use Rattle.std.specs.Prelude.{Bool, true, false, ◌&&◌, not, List, [], ◌∷◌, ℕ, suc, eqb, length}
 use Rattle.std.proofs.Math.Option.{Option, none, some}
 use Rattle.binar.specs.Bits.{◌⊻◌, select, ◌⊕◌}
-use Rattle.symplectic.specs.Turns.{all_of}
+use Rattle.std.specs.List.{list_all}
 use Rattle.symplectic.specs.Matches.{fit_all, matches}
 use Rattle.reduction.specs.Columns.{rank}
 use Rattle.residue.specs.Residue.{basis, core, form}
@@ -29,7 +29,7 @@ bordered_form E a b = E a.0 b.0 ⊻ (a.1 && b.1)
 -- on and above the diagonal it is one just on the diagonal
 unfoldable pub unit_lower : (ℕ → ℕ → Bool) → List (ℕ × Bool) → Bool
 unit_lower E [] = true
-unit_lower E (a ∷ l) = bordered_form E a a && (all_of (λ b. not (bordered_form E a b)) l && unit_lower E l)
+unit_lower E (a ∷ l) = bordered_form E a a && (list_all (λ b. not (bordered_form E a b)) l && unit_lower E l)
 
 -- r + 1 vectors of the dimension, an odd relation, unit lower, relation sum zero, full rank
 unfoldable pub validate : ℕ → (ℕ → ℕ → Bool) → List (ℕ × Bool) → Bool
@@ -42,7 +42,7 @@ validate r E l =
 -- r + 1 vectors, none zero, that match F
 unfoldable pub verifies_bordered : ℕ → List ℕ → ℕ → List ℕ → Bool
 verifies_bordered n F r vs =
-    eqb (length vs) (suc r) && (all_of (λ v. not (eqb v 0)) vs && matches n F vs)
+    eqb (length vs) (suc r) && (list_all (λ v. not (eqb v 0)) vs && matches n F vs)
 
 -- ---- does the bordered candidate pass? A construction that finds no partner or no member to drop counts as not passing
 

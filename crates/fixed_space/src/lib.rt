@@ -11,7 +11,7 @@ ghost use Rattle.fixed_space.specs.FixedSpace.{kernel as kernel_of, reduced_basi
 ghost use Rattle.fixed_space.specs.Promises.{InPlace, Complete, Reduced, Counted};
 
 use actions::Action;
-use questions::Listing;
+use questions::ListingError;
 use symplectic::MOST_ROWS;
 
 // A basis of all u with uM = 0, where the rows M are reduced in place: the rows of the transform beside those that became zero. Answers which is the first.
@@ -62,7 +62,7 @@ fn fixed_space(a: Action, out: &mut [u64]) -> usize
 }
 
 // The reduced basis, with ascending pivots, of all vectors that the lent action leaves in place.
-pub fn clifford_fixed_space(n: u64, rows: &[u64], out: &mut [u64]) -> Listing
+pub fn clifford_fixed_space(n: u64, rows: &[u64], out: &mut [u64]) -> Result<u64, ListingError>
     ensures answered { figures_of_lem result ≡ (fixed_reply n rows.now out.old).figures }
     ensures left { out.new ≡ (fixed_reply n rows.now out.old).words }
     ensures in_place { InPlace n rows.now out.new (figures_of_lem result) }
@@ -70,16 +70,10 @@ pub fn clifford_fixed_space(n: u64, rows: &[u64], out: &mut [u64]) -> Listing
     ensures reduced { Reduced n out.new (figures_of_lem result) }
     ensures dimension { Counted n rows.now (figures_of_lem result) }
 {
-    let asked = questions::listing_of(questions::action_questions(n, rows));
-    let Listing::Listed { count: _ } = asked else {
-        return asked;
-    };
+    questions::action_questions(n, rows)?;
     let wanted = n + n;
     if out.len() < wanted as usize {
-        return Listing::OutputTooShort;
+        return Err(ListingError::OutputTooShort);
     }
-    let count = fixed_space(actions::from_words(n, rows), out);
-    Listing::Listed {
-        count: count as u64,
-    }
+    Ok(fixed_space(actions::from_words(n, rows), out) as u64)
 }

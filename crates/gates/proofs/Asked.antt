@@ -1,14 +1,16 @@
 -- What the questions of a gate answer, and of a sequence: each refusal in its turn, gate by gate, and what is known where all are passed.
 -- Assumes nothing.
-use mathlib.Core.Path.{◌≡◌, refl, sym, ap, ◌∙◌}
+use mathlib.Core.Path.{◌≡◌, refl, sym, ap, ap₂, ◌∙◌}
 use mathlib.Core.Bool.{Bool, true, false, ◌&&◌, ◌||◌, not}
 use mathlib.Core.List.{List, [], ◌∷◌, map}
-use Prim.Native.Nat.{ℕ, suc, ◌+◌, ◌≤◌, ◌<◌}
+use Prim.Native.Nat.{ℕ, zero, suc, ◌+◌, ◌*◌, ◌/◌, ◌<◌}
+use native.Mathlib.Nat.{le_of_suc-le-suc, not-suc-le-zero}
 use native.Mathlib.Omega.{arith}
+use Rattle.std.specs.Simd.{first_chunks}
 use lib.Dec.{ltb, eqb}
 use lib.ListN.{length, get_or, drop, length-drop}
-use lib.Seq.{drop-cons}
-use borrow.Author.Tests.{ltb-true, lt-ltb, le-ltb, eq-eqb, ne_eqb}
+use lib.Seq.{drop-cons, get_or-take, get_or-drop}
+use borrow.Author.Tests.{ltb-true}
 use Rattle.binar.specs.Bits.{digit}
 use Rattle.blocks.specs.Matrices.{units}
 use Rattle.symplectic.specs.Turns.{followed_by, product}
@@ -24,27 +26,6 @@ module _ (n a b : ℕ) where
   pub unknown_gate : (two : Bool) → gate_questions n false two a b ≡ 9
   unfolding gate_questions
   unknown_gate two = refl
-
-  pub first_high : (two : Bool) → n ≤ a → gate_questions n true two a b ≡ 10
-  unfolding gate_questions
-  first_high two h = simp (le-ltb a n h)
-
-  module _ (first : a < n) where
-    pub one_passed : gate_questions n true false a b ≡ 0
-    unfolding gate_questions
-    one_passed = simp (lt-ltb a n first)
-
-    pub second_high : n ≤ b → gate_questions n true true a b ≡ 10
-    unfolding gate_questions
-    second_high h = simp (lt-ltb a n first, le-ltb b n h)
-
-    pub equal_qubits : b < n → a ≡ b → gate_questions n true true a b ≡ 11
-    unfolding gate_questions
-    equal_qubits h e = simp (lt-ltb a n first, lt-ltb b n h, eq-eqb a b e)
-
-    pub two_passed : b < n → (a ≡ b → ⊥) → gate_questions n true true a b ≡ 0
-    unfolding gate_questions
-    two_passed h e = simp (lt-ltb a n first, lt-ltb b n h, ne_eqb a b e)
 
   -- what is known of a gate that passed
   pub gate_known : (there two : Bool) → gate_questions n there two a b ≡ 0 → (there ≡ true) × (a < n) × (two ≡ true → b < n)
@@ -88,12 +69,35 @@ module _ (l : List ℕ) (j : ℕ) (h : j + 2 < length l) where
       next : (i k : ℕ) → k ≡ suc i → i < length l → drop i l ≡ get_or l i 0 ∷ drop k l
       next i k e b = drop-cons l i 0 b ∙ ap (λ (m : ℕ). get_or l i 0 ∷ drop m l) (sym e)
 
--- the questions of the gate at byte j, and its turns
+-- the questions of a gate by its three bytes, and its turns
+abbrev pub asked_of : ℕ → List Gate → ℕ → ℕ → ℕ → ℕ
+asked_of n gates g a b = gate_questions n (ltb g (length gates)) (reads_two (gate gates g)) a b
+
+abbrev pub turns_of : ℕ → List Gate → ℕ → ℕ → ℕ → List ℕ
+turns_of n gates g a b = map (turn_vector_lem n a b) (gate gates g).turns
+
+-- of the gate at byte j
 abbrev pub asked_at : ℕ → List Gate → List ℕ → ℕ → ℕ
-asked_at n gates l j = gate_questions n (ltb (get_or l j 0) (length gates)) (reads_two (gate gates (get_or l j 0))) (get_or l (j + 1) 0) (get_or l (j + 2) 0)
+asked_at n gates l j = asked_of n gates (get_or l j 0) (get_or l (j + 1) 0) (get_or l (j + 2) 0)
 
 abbrev pub turns_at : ℕ → List Gate → List ℕ → ℕ → List ℕ
-turns_at n gates l j = map (turn_vector_lem n (get_or l (j + 1) 0) (get_or l (j + 2) 0)) (gate gates (get_or l j 0)).turns
+turns_at n gates l j = turns_of n gates (get_or l j 0) (get_or l (j + 1) 0) (get_or l (j + 2) 0)
+
+-- byte j of chunk i
+chunk_at : (k i j : ℕ) (l : List ℕ) → i < k → j < 3 → get_or (get_or (first_chunks 3 k l) i []) j 0 ≡ get_or l (i * 3 + j) 0
+chunk_at zero i j l h g = absurd (not-suc-le-zero h)
+chunk_at (suc k) zero j l h g = get_or-take 3 l j 0 g ∙ ap (λ (m : ℕ). get_or l m 0) (omega arith)
+chunk_at (suc k) (suc i) j l h g =
+    chunk_at k i j (drop 3 l) (le_of_suc-le-suc h) g ∙ get_or-drop 3 l (i * 3 + j) 0 ∙ ap (λ (m : ℕ). get_or l m 0) (omega arith)
+
+-- what is computed from the three bytes of chunk i
+pub of_chunk : {A : Type 0} (f : ℕ → ℕ → ℕ → A) (chunks : List (List ℕ)) (l : List ℕ) (i : ℕ) → chunks ≡ first_chunks 3 (length l / 3) l → i < length l / 3
+    → f (get_or (get_or chunks i []) 0 0) (get_or (get_or chunks i []) 1 0) (get_or (get_or chunks i []) 2 0) ≡ f (get_or l (i * 3) 0) (get_or l (i * 3 + 1) 0) (get_or l (i * 3 + 2) 0)
+of_chunk f chunks l i is h =
+    let read : (j : ℕ) → j < 3 → get_or (get_or chunks i []) j 0 ≡ get_or l (i * 3 + j) 0 = λ j g. ap (λ (c : List (List ℕ)). get_or (get_or c i []) j 0) is ∙ chunk_at (length l / 3) i j l h g in
+    let zero_read : get_or (get_or chunks i []) 0 0 ≡ get_or l (i * 3) 0 = read 0 (omega arith) ∙ ap (λ (m : ℕ). get_or l m 0) (omega arith) in
+    ap (λ (g : ℕ). f g (get_or (get_or chunks i []) 1 0) (get_or (get_or chunks i []) 2 0)) zero_read
+    ∙ ap₂ (f (get_or l (i * 3) 0)) (read 1 (omega arith)) (read 2 (omega arith))
 
 -- the gates up to byte j are passed, and their turns have made F
 abbrev pub Upto : ℕ → List Gate → List ℕ → ℕ → List ℕ → Type 0
@@ -118,8 +122,11 @@ module _ (n : ℕ) (gates : List Gate) (l : List ℕ) where
       next_questions = sym (ap (sequence_questions n gates) (three l j h)) ∙ upto.0
 
       -- the next gate is refused
-      pub upto_refused : (k : ℕ) → asked_at n gates l j ≡ suc k → sequence_questions n gates l ≡ suc k
+      upto_refused : (k : ℕ) → asked_at n gates l j ≡ suc k → sequence_questions n gates l ≡ suc k
       upto_refused k e = sym next_questions ∙ then_refused (asked_at n gates l j) (sequence_questions n gates (drop (j + 3) l)) k e
+
+      pub upto_first : (v k : ℕ) → v ≡ suc k → v ≡ asked_at n gates l j → v ≡ sequence_questions n gates l
+      upto_first v k e a = e ∙ sym (upto_refused k (sym a ∙ e))
 
       -- the next gate is passed, and its turns are made
       pub upto_next : (G : List ℕ) → asked_at n gates l j ≡ 0 → G ≡ followed_by n F (turns_at n gates l j) → Upto n gates l (j + 3) G

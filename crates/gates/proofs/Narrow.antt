@@ -12,7 +12,7 @@ use Rattle.binar.specs.Bits.{select, bit}
 use Rattle.binar.proofs.Sums.{sum_lt}
 use Rattle.blocks.specs.Matrices.{All}
 use Rattle.blocks.proofs.All.{All-map, All-to_map, All-append}
-use Rattle.symplectic.specs.Turns.{all_of}
+use Rattle.std.specs.List.{list_all}
 use Rattle.questions.proofs.Questions.{then_known}
 use Rattle.sheets.specs.Sheets.{Gate, gate_fits_lem}
 use Rattle.sheets.specs.inner.Seconds.{Second}
@@ -39,11 +39,11 @@ module _ (n a b : ℕ) (first : a < n) where
   turns_lt codes h = All-to_map (turn_vector_lem n a b) (λ v. v < 2 ^ (n + n)) codes (All-map vector_lt codes h)
 
 -- the turns of a gate that was asked of, where the gates fit
-pub turns_second : (P : Type 0) (gates : List Gate) → all_of gate_fits_lem gates ≡ true → (g : ℕ) → (reads_two (gate gates g) ≡ true → P) → All (Second P) (gate gates g).turns
+pub turns_second : (P : Type 0) (gates : List Gate) → list_all gate_fits_lem gates ≡ true → (g : ℕ) → (reads_two (gate gates g) ≡ true → P) → All (Second P) (gate gates g).turns
 unfolding reads_two gate
 turns_second P gates fit = gate_second P gates no_gate (no_turns 0) fit
 
-pub sequence_lt : (n : ℕ) (gates : List Gate) → all_of gate_fits_lem gates ≡ true → (l : List ℕ) → sequence_questions n gates l ≡ 0 → All (λ v. v < 2 ^ (n + n)) (sequence_turns n gates l)
+pub sequence_lt : (n : ℕ) (gates : List Gate) → list_all gate_fits_lem gates ≡ true → (l : List ℕ) → sequence_questions n gates l ≡ 0 → All (λ v. v < 2 ^ (n + n)) (sequence_turns n gates l)
 unfolding sequence_questions sequence_turns
 sequence_lt n gates fit [] e = tt
 sequence_lt n gates fit (g ∷ []) e = tt

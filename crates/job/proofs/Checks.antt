@@ -1,15 +1,16 @@
 -- What the questions of a file answer: each refusal in its turn, the answer where all are passed, and what is known then.
 -- Assumes nothing.
-use mathlib.Core.Path.{◌≡◌, refl, ap, ◌∙◌}
-use mathlib.Core.Bool.{Bool, true, false, ◌&&◌, and-eq-true_iff}
+use mathlib.Core.Path.{◌≡◌, refl, sym, ap, ap₂, ◌∙◌}
+use mathlib.Core.Bool.{Bool, true, false, ◌&&◌, and-true, and_assoc, and-eq-true_iff}
+use Rattle.std.specs.List.{list_all, range_with_len}
 use mathlib.Core.List.{List}
 use mathlib.Core.Logic.{⊎_elim}
 use Prim.Native.Nat.{ℕ, zero, suc, ◌+◌, ◌*◌, ◌≤◌, ◌<◌}
 use native.Mathlib.Omega.{arith}
-use native.Mathlib.Nat.{eq-or-lt_of_le, le_of_suc-le-suc}
+use native.Mathlib.Nat.{zero-add, add-zero, eq-or-lt_of_le, le_of_suc-le-suc}
 use lib.Dec.{eqb, leb, ltb}
 use lib.ListN.{length}
-use borrow.Author.Tests.{ltb-true, leb-true, eqb-true, lt-ltb, le-ltb, le-leb, lt-leb, eq-eqb, ne_eqb}
+use borrow.Author.Tests.{ltb-true, leb-true, eqb-true, le-leb, lt-leb}
 use Rattle.symplectic.specs.Sizes.{max_qubits}
 use Rattle.questions.specs.Replies.{ask, size_question}
 use Rattle.questions.proofs.Questions.{ask_passed, size_refused, size_passed, size_known}
@@ -30,40 +31,21 @@ module _ (file : List ℕ) (e : Entry) where
       let l = (and-eq-true_iff (eqb e.zero_byte 0) (leb (e.offset + part_size_lem e) (length file))).0 k.1 in
       (ltb-true e.kind 2 k.0, eqb-true e.zero_byte 0 l.0, leb-true (e.offset + part_size_lem e) (length file) l.1)
 
-  pub entry_kind : 1 < e.kind → entry_passes_lem file e ≡ false
-  unfolding entry_passes_lem
-  entry_kind h = ap (λ (b : Bool). b && (eqb e.zero_byte 0 && leb (e.offset + part_size_lem e) (length file))) (le-ltb e.kind 2 h)
-
-  pub entry_byte : (e.zero_byte ≡ 0 → ⊥) → entry_passes_lem file e ≡ false
-  unfolding entry_passes_lem
-  entry_byte h =
-      no_second (ltb e.kind 2) _ (ap (λ (b : Bool). b && leb (e.offset + part_size_lem e) (length file)) (ne_eqb e.zero_byte 0 h))
-
-  pub entry_end : e.kind ≤ 1 → e.zero_byte ≡ 0 → entry_passes_lem file e ≡ leb (e.offset + part_size_lem e) (length file)
-  unfolding entry_passes_lem
-  entry_end h z =
-      ap (λ (b : Bool). b && (eqb e.zero_byte 0 && leb (e.offset + part_size_lem e) (length file))) (lt-ltb e.kind 2 (omega arith))
-      ∙ ap (λ (b : Bool). b && leb (e.offset + part_size_lem e) (length file)) (eq-eqb e.zero_byte 0 z)
-
 -- ---- the entries
 
 module _ (file : List ℕ) where
-  pub entries_none : entries_pass_lem file 0 ≡ true
+  -- the code goes from the first entry up
+  pub entries_range : (k : ℕ) → list_all (λ i. entry_passes_lem file (entry file i)) (range_with_len 0 k) ≡ entries_pass_lem file k
   unfolding entries_pass_lem
-  entries_none = refl
+  entries_range zero = refl
+  entries_range (suc k) = last_of 0 k ∙ ap₂ (λ (b : Bool) (i : ℕ). b && entry_passes_lem file (entry file i)) (entries_range k) (zero-add k)
+    where
+      passes : ℕ → Bool
+      passes i = entry_passes_lem file (entry file i)
 
-  pub entries_more : (k more : ℕ) → more ≡ suc k → entries_pass_lem file k ≡ true → entry_passes_lem file (entry file k) ≡ true → entries_pass_lem file more ≡ true
-  unfolding entries_pass_lem
-  entries_more k more m e p = ap (entries_pass_lem file) m ∙ ap (λ (b : Bool). b && entry_passes_lem file (entry file k)) e ∙ p
-
-  pub entries_refused : (k i : ℕ) → i < k → entry_passes_lem file (entry file i) ≡ false → entries_pass_lem file k ≡ false
-  unfolding entries_pass_lem
-  entries_refused zero i h p = absurd (omega arith)
-  entries_refused (suc k) i h p =
-      ⊎_elim
-      (λ (same : i ≡ k). no_second (entries_pass_lem file k) (entry_passes_lem file (entry file k)) (rw same at p))
-      (λ (l : i < k). ap (λ (b : Bool). b && entry_passes_lem file (entry file k)) (entries_refused k i l p))
-      (eq-or-lt_of_le (le_of_suc-le-suc h))
+      last_of : (a m : ℕ) → list_all passes (range_with_len a (suc m)) ≡ (list_all passes (range_with_len a m) && passes (a + m))
+      last_of a zero = and-true (passes a) ∙ ap passes (sym (add-zero a))
+      last_of a (suc m) = ap (λ (b : Bool). passes a && b) (last_of (a + 1) m) ∙ sym (and_assoc (passes a) (list_all passes (range_with_len (a + 1) m)) (passes (a + 1 + m))) ∙ ap (λ (i : ℕ). list_all passes (range_with_len a (suc m)) && passes i) (omega arith)
 
   pub entries_known : (k : ℕ) → entries_pass_lem file k ≡ true → (i : ℕ) → i < k → entry_passes_lem file (entry file i) ≡ true
   unfolding entries_pass_lem

@@ -1,12 +1,17 @@
 -- Entries of a file: past the end, by their numbers, and the size of their parts.
 -- Assumes nothing.
-use mathlib.Core.Path.{◌≡◌, refl, ap}
+use mathlib.Core.Path.{◌≡◌, refl, sym, ap}
 use mathlib.Core.List.{List}
 use Prim.Native.Nat.{ℕ, zero, suc, ◌+◌, ◌*◌, ◌≤◌}
 use native.Mathlib.Omega.{arith}
 use lib.ListN.{length}
+use lib.Dec.{ltb}
+use borrow.Author.Tests.{le-ltb}
+use Rattle.std.specs.Prelude.{is_ok}
 use Rattle.numbers.specs.Numbers.{number}
 use Rattle.numbers.proofs.Numbers.{number_past}
+use Rattle.job.specs.declared.Kind.TheVariants.{Rows, Gates}
+use Rattle.job.specs.Answers.{kind_of, part_kind_lem}
 use Rattle.job.specs.Files.{head_size, entry_size, Entry, entry, item_size, part_size_lem}
 
 -- ---- past the end
@@ -52,3 +57,18 @@ part_le e = go e.kind
     go : (k : ℕ) → item_size k * e.count ≤ 8 * e.count
     go zero = omega arith
     go (suc k) = omega arith
+
+-- ---- a kind byte by the kind that it names
+
+pub rows_kind : (byte : ℕ) → Rows ≡ part_kind_lem byte → byte ≡ 0
+rows_kind zero e = refl
+rows_kind (suc more) e = cc
+
+pub gates_kind : (byte : ℕ) → Gates ≡ part_kind_lem byte → byte ≡ 0 → ⊥
+gates_kind zero e z = cc
+gates_kind (suc more) e z = cc
+
+pub known_kind : (byte : ℕ) → is_ok (kind_of byte) ≡ ltb byte 2
+known_kind zero = refl
+known_kind (suc zero) = refl
+known_kind (suc (suc more)) = sym (le-ltb (suc (suc more)) 2 (omega arith))

@@ -1,7 +1,7 @@
 -- What two letters pair to, by their bits; the pairing of two vectors is the sum modulo 2 of the chart over their qubits.
 -- Assumes nothing.
 use mathlib.Core.Path.{◌≡◌, refl, sym, ap, ap₂, ◌∙◌}
-use mathlib.Core.Bool.{Bool, true, false, ◌&&◌}
+use mathlib.Core.Bool.{Bool, true, false, not, ◌&&◌}
 use mathlib.Core.List.{foldr, zip_with}
 use Prim.Native.Nat.{ℕ, zero, suc, ◌+◌}
 use Rattle.binar.specs.Bits.{◌⊻◌, digit, bit}
@@ -12,7 +12,10 @@ use Rattle.linear.proofs.Sums.{add-zero}
 use Rattle.symplectic.specs.Turns.{pairing}
 use Rattle.symplectic.specs.inner.Vectors.{pairing_from}
 use Rattle.symplectic.proofs.Qubits.{pairing_from_lem}
+use denote.Enum.Bare.{sameb}
+use Rattle.letters.specs.contracts.Letter.{the_type}
 use Rattle.letters.specs.declared.Letter.{Letter}
+use Rattle.letters.specs.declared.Letter.TheVariants.{I, X, Y, Z}
 use Rattle.letters.specs.Letters.{bits, letter, vector, chart, letters_from, letters}
 
 -- ---- two letters
@@ -41,6 +44,37 @@ chart_bits a b =
     pairing_from_lem 1 (vector a) (vector b)
     ∙ add-zero 𝔹 ((bit 0 (vector a) && bit 1 (vector b)) ⊻ (bit 1 (vector a) && bit 0 (vector b)))
     ∙ ap₂ ◌⊻◌ (ap₂ ◌&&◌ (vector_x a) (vector_z b)) (ap₂ ◌&&◌ (vector_z a) (vector_x b))
+
+-- the cases of the chart
+pub pairs_left : (a b : Letter) → a ≡ I → chart a b ≡ false
+pairs_left a b e = ap (λ (l : Letter). chart l b) e ∙ chart_bits I b
+
+pub pairs_right : (a b : Letter) → b ≡ I → chart a b ≡ false
+pairs_right a b e = ap (chart a) e ∙ chart_bits a I ∙ none a
+  where
+    none : (l : Letter) → crosswise (bits l) (bits I) ≡ false
+    none I = refl
+    none X = refl
+    none Y = refl
+    none Z = refl
+
+pub pairs_others : (a b : Letter) → (a ≡ I → ⊥) → (b ≡ I → ⊥) → chart a b ≡ not (sameb the_type a b)
+pairs_others a b f g = chart_bits a b ∙ others a b f g
+  where
+    others : (l m : Letter) → (l ≡ I → ⊥) → (m ≡ I → ⊥) → crosswise (bits l) (bits m) ≡ not (sameb the_type l m)
+    others I m f g = absurd (f refl)
+    others X I f g = absurd (g refl)
+    others X X f g = refl
+    others X Y f g = refl
+    others X Z f g = refl
+    others Y I f g = absurd (g refl)
+    others Y X f g = refl
+    others Y Y f g = refl
+    others Y Z f g = refl
+    others Z I f g = absurd (g refl)
+    others Z X f g = refl
+    others Z Y f g = refl
+    others Z Z f g = refl
 
 -- ---- two vectors
 

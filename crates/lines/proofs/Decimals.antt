@@ -1,19 +1,16 @@
 -- A number in decimal: its last digit behind its tens, and how many digits it has.
 -- Assumes nothing.
-use mathlib.Core.Path.{◌≡◌, refl, ap, ap₂, ◌∙◌}
+use mathlib.Core.Path.{◌≡◌, refl, ap, ◌∙◌}
 use mathlib.Core.Bool.{Bool, true, false, cond}
 use mathlib.Core.List.{List, [], ◌∷◌, ◌++◌}
-use Prim.Native.Nat.{ℕ, zero, suc, ◌+◌, ◌*◌, ◌/◌, ◌%◌, ◌^◌, ◌≤◌, ◌<◌}
-use native.Mathlib.Nat.{le_refl, not-suc-le-zero, pos_of_ne-zero, pow-suc}
+use Prim.Native.Nat.{ℕ, zero, suc, ◌+◌, ◌/◌, ◌%◌, ◌^◌, ◌≤◌, ◌<◌}
+use native.Mathlib.Nat.{le_refl, not-suc-le-zero, pow-suc}
 use native.Mathlib.Decide.{le_ind}
 use native.Mathlib.Omega.{arith}
 use lib.Dec.{ltb}
 use lib.ListN.{length, length-append}
-use lib.Arith.{digits_div, digits_mod}
 use borrow.Author.Tests.{lt-ltb, le-ltb, ltb-true}
 use Rattle.lines.specs.Lines.{decimal_in, decimal}
-use Rattle.lines.specs.declared.Tally.{Tally}
-use Rattle.lines.specs.inner.Tallies.{tallied}
 
 -- ---- more digits than the number itself has change nothing
 
@@ -41,20 +38,11 @@ decimal_step (suc v) =
 pub decimal_digit : (u : ℕ) → u < 10 → decimal u ≡ (48 + u) ∷ []
 decimal_digit u h = decimal_step u ∙ ap (λ (b : Bool). cond b ((48 + u) ∷ []) (decimal (u / 10) ++ ((48 + u % 10) ∷ []))) (lt-ltb u 10 h)
 
-pub decimal_tens : (t u : ℕ) → 0 < t → u < 10 → decimal (t * 10 + u) ≡ decimal t ++ ((48 + u) ∷ [])
-decimal_tens t u p h =
-    let v = t * 10 + u in
-    decimal_step v
-    ∙ ap (λ (b : Bool). cond b ((48 + v) ∷ []) (decimal (v / 10) ++ ((48 + v % 10) ∷ []))) (le-ltb v 10 (omega arith))
-    ∙ ap₂ (λ (a b : ℕ). decimal a ++ ((48 + b) ∷ [])) (digits_div t h) (digits_mod t h)
+pub decimal_low : (v : ℕ) → v < 10 → decimal v ≡ (48 + v % 10) ∷ []
+decimal_low v h = decimal_digit v h ∙ ap (λ (k : ℕ). (48 + k) ∷ []) (omega arith)
 
-pub tally_digit : (v : Tally) → v.tens ≡ 0 → decimal (tallied v) ≡ (48 + v.unit % 10) ∷ []
-unfolding tallied
-tally_digit v z = ap decimal (omega arith) ∙ decimal_digit (v.unit % 10) (omega arith)
-
-pub tally_tens : (v : Tally) → (v.tens ≡ 0 → ⊥) → decimal (tallied v) ≡ decimal v.tens ++ ((48 + v.unit % 10) ∷ [])
-unfolding tallied
-tally_tens v p = decimal_tens v.tens (v.unit % 10) (pos_of_ne-zero p) (omega arith)
+pub decimal_high : (v : ℕ) → 10 ≤ v → decimal v ≡ decimal (v / 10) ++ ((48 + v % 10) ∷ [])
+decimal_high v h = decimal_step v ∙ ap (λ (b : Bool). cond b ((48 + v) ∷ []) (decimal (v / 10) ++ ((48 + v % 10) ∷ []))) (le-ltb v 10 h)
 
 -- ---- how many digits
 

@@ -1,3 +1,2 @@
 pub mod Lines
 pub mod Bytes
-pub mod inner

@@ -13,12 +13,12 @@ use binar::Row;
 pub fn times(c: Row, w: &[u64]) -> Row
     ensures { val result ≡ times_of (val c) (rows_in_lem w.now) }
 {
-    let mut s = binar::zero();
-    let mut bits = binar::low(c, blocks::rows_in(w));
-    while !binar::is_zero(bits) {
-        let t = binar::lowest(bits);
-        s = binar::sum(s, blocks::row(w, t));
-        bits = binar::sum(bits, binar::unit(t));
+    let mut s = Row::zero();
+    let mut bits = c.low(blocks::rows_in(w));
+    while !bits.is_zero() {
+        let t = bits.lowest();
+        s ^= blocks::row(w, t);
+        bits ^= Row::unit(t);
     }
     s
 }
@@ -27,7 +27,7 @@ pub fn times(c: Row, w: &[u64]) -> Row
 pub fn multiply(n: u64, a: &[u64], b: &[u64], out: &mut [u64])
     ensures { out.new ≡ laid n (matmul (rows_in_lem a.now) (rows_in_lem b.now)) out.old }
 {
-    let k = blocks::lesser(blocks::rows_in(a), out.len());
+    let k = blocks::rows_in(a).min(out.len());
     for i in 0..k {
         out[i] = blocks::word(times(blocks::row(a, i), b));
     }
@@ -37,7 +37,7 @@ pub fn multiply(n: u64, a: &[u64], b: &[u64], out: &mut [u64])
 pub fn lay(n: u64, w: &[u64], out: &mut [u64])
     ensures { out.new ≡ laid n (rows_in_lem w.now) out.old }
 {
-    let k = blocks::lesser(blocks::rows_in(w), out.len());
+    let k = blocks::rows_in(w).min(out.len());
     for i in 0..k {
         out[i] = blocks::word(blocks::row(w, i));
     }
@@ -47,8 +47,6 @@ pub fn lay(n: u64, w: &[u64], out: &mut [u64])
 pub fn put_front(k: usize, w: &[u64], out: &mut [u64])
     ensures { rows_in_lem out.new ≡ over (take k (rows_in_lem w.now)) (rows_in_lem out.old) }
 {
-    let m = blocks::lesser(blocks::lesser(k, blocks::rows_in(w)), blocks::rows_in(out));
-    for i in 0..m {
-        blocks::put(out, i, blocks::row(w, i));
-    }
+    let m = blocks::start(w, k).min(out.len());
+    out[..m].copy_from_slice(&w[..m]);
 }

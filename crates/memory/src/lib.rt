@@ -13,16 +13,15 @@ use binar::WIDTH;
 // How many words an entry takes: its dimension, then as many rows as a row has columns.
 pub const ENTRY: usize = 65;
 
-// Whether the first rows of some words are those of a lent reduced basis.
+// Whether words begin with others. A look at a memory is mostly this, and `starts_with` takes longer to find two first words that differ.
 fn begins(w: &[u64], basis: &[u64]) -> bool
     ensures { result ≡ same_rows (take (length (rows_in_lem basis.now)) (rows_in_lem w.now)) (rows_in_lem basis.now) }
 {
-    let d = blocks::rows_in(basis);
-    if blocks::rows_in(w) < d {
+    if w.len() < basis.len() {
         return false;
     }
-    for i in 0..d {
-        if !binar::equal(blocks::row(w, i), blocks::row(basis, i)) {
+    for (x, y) in w.iter().zip(basis) {
+        if x != y {
             return false;
         }
     }
@@ -34,39 +33,24 @@ pub fn holds(memory: &[u64], basis: &[u64]) -> bool
     ensures { result ≡ held_in (room_in memory.now) (rows_in_lem basis.now) memory.now }
 {
     let d = blocks::rows_in(basis) as u64;
-    let mut at: usize = 0;
-    let mut left = memory.len();
-    while ENTRY <= left {
-        if memory[at] == d {
-            if begins(&memory[at + 1..at + ENTRY], basis) {
-                return true;
-            }
+    for entry in memory.chunks_exact(ENTRY) {
+        if entry[0] == d && begins(&entry[1..], basis) {
+            return true;
         }
-        at += ENTRY;
-        left -= ENTRY;
     }
     false
-}
-
-// Puts zero into every word.
-fn clear(w: &mut [u64])
-    ensures { w.new ≡ replicate (length w.old) 0 }
-{
-    let k = w.len();
-    for i in 0..k {
-        w[i] = 0;
-    }
 }
 
 // Lays the rows of a reduced basis into words, the rest zero.
 fn lay(w: &mut [u64], basis: &[u64])
     ensures { w.new ≡ laid (width / 2) (rows_in_lem basis.now) (replicate (length w.old) 0) }
 {
-    clear(w);
+    w.fill(0);
     matrices::lay((WIDTH / 2) as u64, basis, w)
 }
 
 // Enters the space with this reduced basis at the start of lent words, if there is room for a whole entry; answers how many words it takes.
+#[tactic(auto, using(crate::proofs::Kept::taken_none, crate::proofs::Kept::taken_some, crate::proofs::Kept::entered_none))]
 pub fn enter(memory: &mut [u64], basis: &[u64]) -> usize
     ensures answered { result ≡ taken memory.old }
     ensures left { memory.new ≡ entered (rows_in_lem basis.now) memory.old }

@@ -2,11 +2,13 @@
 -- Assumes nothing.
 use mathlib.Core.Path.{◌≡◌, refl, sym, ap, ap₂, ◌∙◌}
 use mathlib.Core.List.{List, [], ◌∷◌}
-use Prim.Native.Nat.{ℕ, zero, suc, ◌+◌, ◌*◌, ◌-◌, ◌^◌, ◌≤◌, ◌<◌}
+use mathlib.Core.Logic.{⊎_elim}
+use Prim.Native.Nat.{ℕ, zero, suc, ◌+◌, ◌*◌, ◌-◌, ◌^◌, ◌≤◌, ◌<◌, min}
 use native.Mathlib.Omega.{arith}
 use native.Mathlib.Nat.{pow-suc, pow-le-pow_right, zero-add, suc-add, sub_self}
 use lib.ListN.{length, get_or, take, drop, length-drop, drop_of_length-le}
 use lib.Seq.{take-nil, drop-nil, take-take, drop-drop, length-take-le, get_or-take, get_or-drop}
+use Rattle.std.proofs.lemmas.Bool.{cases_lt}
 use Rattle.numbers.specs.Numbers.{little_endian, part, number}
 
 -- ---- the first byte, and the others
@@ -50,17 +52,10 @@ seven_bytes v size h k =
     let m : 256 ^ size ≤ 256 ^ 7 = pow-le-pow_right {n = 256} (omega arith) {i = size} {j = 7} (omega arith) in
     omega arith
 
--- ---- a number read from its last byte: before the first byte that is read, and behind the last
+-- ---- a number read from its last byte: before the first byte that is read
 
 pub reading_starts : (bytes : List ℕ) (from size : ℕ) → (0 ≡ number bytes from (size - size)) × (0 < 256 ^ (size - size))
 reading_starts bytes from size = rw (sub_self size) (sym (number_none bytes from), omega arith)
-
-pub reading_ends : (bytes : List ℕ) (v from size i : ℕ) → i ≤ 0 → v ≡ number bytes (from + i) (size - i) → v < 256 ^ (size - i)
-    → (v ≡ number bytes from size) × (v < 256 ^ size)
-reading_ends bytes v from size i h e b =
-    let a : from + i ≡ from = omega arith in
-    let k : size - i ≡ size = omega arith in
-    (e ∙ ap₂ (number bytes) a k, rw k at b)
 
 -- ---- past the end
 
@@ -116,3 +111,12 @@ part_of_part bytes offset size skip width h =
 pub number_of_part : (bytes : List ℕ) (offset size skip width : ℕ) → skip + width ≤ size → number (part bytes offset size) skip width ≡ number bytes (offset + skip) width
 unfolding number
 number_of_part bytes offset size skip width h = ap little_endian (part_of_part bytes offset size skip width h)
+
+-- a place that does not fit 64 bits is past the end of bytes that do, and so is the last that fits
+pub number_saturated : (bytes : List ℕ) (from at size : ℕ) → length bytes < 9223372036854775808 → at ≡ min from 18446744073709551615
+    → number bytes at size ≡ number bytes from size
+number_saturated bytes from at size short e =
+    ⊎_elim
+    (λ (h : from < 18446744073709551616). ap (λ (k : ℕ). number bytes k size) (omega arith))
+    (λ (h : 18446744073709551616 ≤ from). number_past bytes at size (omega arith) ∙ sym (number_past bytes from size (omega arith)))
+    (cases_lt from 18446744073709551616)

@@ -9,15 +9,11 @@ ghost use Rattle.numbers.specs.Numbers.{number};
 pub fn byte_at(bytes: &[u8], from: u64, i: u64) -> u64
     ensures { (result ≡ get_or bytes.now (from + i) 0) × (result < 256) }
 {
-    let length = bytes.len() as u64;
-    if length <= from {
-        return 0;
+    let at = from.saturating_add(i) as usize;
+    match bytes.get(at) {
+        Some(b) => u64::from(*b),
+        None => 0,
     }
-    if length - from <= i {
-        return 0;
-    }
-    let at = (from + i) as usize;
-    bytes[at] as u64
 }
 
 // The number of at most 8 bytes from `from` on.
@@ -26,9 +22,7 @@ fn read(bytes: &[u8], from: u64, size: u64) -> u64
     ensures { (result ≡ number bytes.now from size) × (result < 256 ^ size) }
 {
     let mut v: u64 = 0;
-    let mut i = size;
-    while 0 < i {
-        i -= 1;
+    for i in (0..size).rev() {
         let b = byte_at(bytes, from, i);
         v = b + 256 * v;
     }
@@ -39,15 +33,5 @@ fn read(bytes: &[u8], from: u64, size: u64) -> u64
 pub fn number_at(bytes: &[u8], from: u64, skip: u64, size: u64) -> u64
     ensures { (result ≡ number bytes.now (from + skip) (min size 8)) × (result < 256 ^ min size 8) }
 {
-    let length = bytes.len() as u64;
-    if length <= from {
-        return 0;
-    }
-    if length - from <= skip {
-        return 0;
-    }
-    if 8 < size {
-        return read(bytes, from + skip, 8);
-    }
-    read(bytes, from + skip, size)
+    read(bytes, from.saturating_add(skip), size.min(8))
 }

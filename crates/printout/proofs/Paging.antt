@@ -4,7 +4,10 @@ use mathlib.Core.Path.{◌≡◌, sym, ap, ◌∙◌}
 use mathlib.Core.List.{List}
 use Prim.Native.Nat.{ℕ, suc, ◌≤◌}
 use lib.ListN.{length, drop, drop_of_length-le}
+use Rattle.job.specs.Answers.{file_number}
 use Rattle.job.specs.Files.{file_questions_lem}
+use Rattle.job.specs.declared.FileError.{FileError}
+use Rattle.job.specs.declared.FileError.TheVariants.{BadLength, TooManyQubits, BadEntry}
 use Rattle.printout.specs.Printout.{file_lines}
 use Rattle.printout.specs.Pages.{PageAnswer, no_such_line, file_refused, PageReply, page_of, page_by, page_reply}
 
@@ -20,6 +23,12 @@ module _ (file : List ℕ) (from : ℕ) (out : List ℕ) where
   pub page_refused : (number : ℕ) → file_questions_lem file ≡ suc number → page_reply file from out ≡ record { answer = file_refused (suc number); bytes = out }
   unfolding page_reply
   page_refused number e = ap (λ (q : ℕ). page_by q file from out) e
+
+  -- by the code's answer
+  pub page_error : (e : FileError) → file_number e ≡ file_questions_lem file → page_reply file from out ≡ record { answer = file_refused (file_number e); bytes = out }
+  page_error BadLength a = page_refused 11 (sym a)
+  page_error TooManyQubits a = page_refused 0 (sym a)
+  page_error BadEntry a = page_refused 12 (sym a)
 
   pub page_past : file_questions_lem file ≡ 0 → length (file_lines file) ≤ from → page_reply file from out ≡ record { answer = no_such_line; bytes = out }
   page_past e h = page_passed e ∙ ap (λ (ls : List (List ℕ)). page_of ls out) (drop_of_length-le (file_lines file) h)

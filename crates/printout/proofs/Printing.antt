@@ -14,17 +14,16 @@ use Rattle.lines.specs.Lines.{line}
 use Rattle.lines.specs.declared.Name.{Name}
 use Rattle.lines.specs.Bytes.{line_room, name_bytes}
 use Rattle.lines.proofs.Fits.{most_vectors, refused_alike, line_figures}
-use Rattle.printout.specs.declared.EntryAction.{EntryAction}
-use Rattle.printout.specs.declared.EntryAction.TheVariants.{Rows, Refused}
-use Rattle.printout.specs.declared.EntryRows.{EntryRows}
+use Rattle.std.specs.Prelude.{Ok, Err}
+use Rattle.printout.specs.declared.EntryError.{EntryError}
 use Rattle.printout.specs.Printout.{list_words, entry_action, unless_refused_action, call_reply, entry_line}
-use Rattle.printout.specs.inner.Held.{HeldBy, Held}
+use Rattle.printout.specs.inner.Held.{entry_number, RefusedBy, Held}
 use Rattle.printout.proofs.Called.{call_miscounted}
 use Rattle.printout.proofs.Lent.{lent_figures, left_count, left_words}
 
 -- ---- by what is held of the action of entry i
 
-module _ (file : List ℕ) (i : ℕ) (which : Name) (l : EntryRows) (loads : Held (qubit_count_lem file) (entry_action file (entry file i)) l) where
+module _ (file : List ℕ) (i : ℕ) (which : Name) where
   abbrev m : ℕ
   m = qubit_count_lem file
 
@@ -40,30 +39,31 @@ module _ (file : List ℕ) (i : ℕ) (which : Name) (l : EntryRows) (loads : Hel
   abbrev whole : ℕ → List ℕ
   whole k = line m i name (unless_refused_action action (call m) k)
 
-  held : (found : EntryAction) → l.found ≡ found → HeldBy m action found l.rows
-  unfolding Held
-  held found e = rw e at loads
-
   module _ (n : ℕ) (q : n ≡ qubit_count_lem file) where
-    pub line_passed : l.found ≡ Rows → line n i (name_bytes which) (call_reply which n (take (n + n) l.rows) (list_words n)) ≡ entry_line file i which
-    unfolding entry_line
-    line_passed e =
-        let a = held Rows e in
-        ap (λ (k : ℕ). line k i name (call k (take (k + k) l.rows))) q ∙ ap (λ (rows : List ℕ). line m i name (call m rows)) (sym a.1) ∙ ap whole (sym a.0)
+    pub line_passed : (rows : List ℕ) → Held (qubit_count_lem file) (entry_action file (entry file i)) (Ok rows)
+        → line n i (name_bytes which) (call_reply which n (take (n + n) rows) (list_words n)) ≡ entry_line file i which
+    unfolding entry_line Held
+    line_passed rows a =
+        ap (λ (k : ℕ). line k i name (call k (take (k + k) rows))) q ∙ ap (λ (r : List ℕ). line m i name (call m r)) (sym a.1) ∙ ap whole (sym a.0)
 
     -- another count of rows is refused with 2
-    pub line_refused : qubit_count_lem file ≤ max_qubits → (number : ℕ) → l.found ≡ Refused number → line n i (name_bytes which) (refused number 0 []) ≡ entry_line file i which
+    refused_by : m ≤ max_qubits → (number : ℕ) → RefusedBy m action number → line n i name (refused number 0 []) ≡ entry_line file i which
     unfolding entry_line
-    line_refused few number e =
+    refused_by few number held =
         ap (λ (k : ℕ). line k i name (refused number 0 [])) q
         ∙ ⊎_elim (λ a. own number a.0 ∙ ap whole (sym a.1))
         (λ a. ap (λ (k : ℕ). line m i name (refused k 0 [])) a.0 ∙ refused_alike m i name 2 0 [] (list_words m) ∙ ap (line m i name) (sym (call_miscounted which m action.words (list_words m) few a.1.1))
         ∙ ap whole (sym a.1.0))
-        (held (Refused number) e)
+        held
       where
         own : (k : ℕ) → (k ≡ 0 → ⊥) → line m i name (refused k 0 []) ≡ whole k
         own zero z = absurd (z refl)
         own (suc k) z = refl
+
+    pub line_refused : qubit_count_lem file ≤ max_qubits → (e : EntryError) → Held (qubit_count_lem file) (entry_action file (entry file i)) (Err e)
+        → line n i (name_bytes which) (refused (entry_number e) 0 []) ≡ entry_line file i which
+    unfolding Held
+    line_refused few e held = refused_by few (entry_number e) held
 
 -- ---- by the figures that a call answers and the words that it leaves, where it is lent the first 4n + 2 of blank words
 

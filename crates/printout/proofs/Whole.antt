@@ -9,13 +9,14 @@ use lib.Dec.{leb}
 use lib.ListN.{length, take, drop, length-append, length-drop}
 use lib.Seq.{drop-drop, take_at}
 use borrow.Author.Tests.{leb-true}
+use Rattle.std.specs.Prelude.{Option, Some, Result, Ok}
 use Rattle.lines.specs.Lines.{file_line_lem}
+use Rattle.job.specs.declared.FileError.{FileError}
 use Rattle.job.specs.Files.{longest_file, file_questions_lem}
 use Rattle.job.proofs.Checks.{passed_length}
 use Rattle.printout.specs.Printout.{file_lines, printed, printout}
 use Rattle.printout.specs.Pages.{fitting_if, fitting, page, file_refused, PageReply, paged, page_of, page_reply, answer_of}
 use Rattle.printout.specs.declared.Page.{Page}
-use Rattle.printout.specs.declared.Page.TheVariants.{Lines}
 use Rattle.printout.proofs.Numbered.{file_lines_lem}
 use Rattle.printout.proofs.Paging.{page_passed, page_refused}
 
@@ -111,6 +112,6 @@ module _ (file : List ℕ) (from : ℕ) (out : List ℕ) (count bytes : ℕ) (an
       ∙ pages_join (length out) left
 
 -- of the code's answer
-pub page_answered : (file : List ℕ) (from : ℕ) (out : List ℕ) (answer : Page) (count bytes : ℕ) → answer_of answer ≡ (page_reply file from out).answer → answer ≡ Lines count bytes
-    → (bytes ≤ length out) × (from + count ≤ longest_file)
-page_answered file from out answer count bytes e is = page_within file from out count bytes (sym e ∙ ap answer_of is)
+pub page_answered : (file : List ℕ) (from : ℕ) (out : List ℕ) (answer : Result (Option Page) FileError) (p : Page) → answer_of answer ≡ (page_reply file from out).answer → answer ≡ Ok (Some p)
+    → (p.bytes ≤ length out) × (from + p.count ≤ longest_file)
+page_answered file from out answer p e is = page_within file from out p.count p.bytes (sym e ∙ ap answer_of is)

@@ -1,11 +1,12 @@
 -- A page of the printout: as many of its lines, from a line on, as have room whole in lent bytes.
 -- Assumes nothing.
-use Rattle.std.specs.Prelude.{Bool, true, false, ℕ, zero, suc, ◌-◌, ◌<◌, leb, length, drop}
+use Rattle.std.specs.Prelude.{Bool, true, false, ℕ, zero, suc, ◌-◌, ◌<◌, leb, length, drop, Option, Some, None, Result, Ok, Err}
 use mathlib.Core.List.{List, [], ◌∷◌, ◌++◌, flatten}
 use Rattle.job.specs.Files.{file_questions_lem}
 use Rattle.printout.specs.Printout.{file_lines}
+use Rattle.job.specs.Answers.{file_number}
+use Rattle.job.specs.declared.FileError.{FileError}
 use Rattle.printout.specs.declared.Page.{Page}
-use Rattle.printout.specs.declared.Page.TheVariants.{Lines, NoSuchLine, BadLength, TooManyQubits, BadEntry}
 
 -- as many lines, from the first on, as have room whole
 abbrev pub fitting_if : Bool → List ℕ → List (List ℕ) → List (List ℕ)
@@ -55,9 +56,7 @@ Onward no_such_line = Unit {0}
 Onward (file_refused number) = Unit {0}
 
 -- what the code's answer says. Open to users
-abbrev pub answer_of : Page → PageAnswer
-answer_of (Lines count bytes) = page count bytes
-answer_of NoSuchLine = no_such_line
-answer_of BadLength = file_refused 12
-answer_of TooManyQubits = file_refused 1
-answer_of BadEntry = file_refused 13
+abbrev pub answer_of : Result (Option Page) FileError → PageAnswer
+answer_of (Ok (Some p)) = page p.count p.bytes
+answer_of (Ok None) = no_such_line
+answer_of (Err e) = file_refused (file_number e)

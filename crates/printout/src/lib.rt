@@ -2,51 +2,64 @@
 // Not in the source.
 #![tactic(auto)]
 
-mod greedy;
-mod minimal;
-
-ghost use Rattle.std.specs.Prelude.{◌≡◌, [], ◌+◌, ◌*◌, ◌<◌, ◌≤◌, length, get_or, take};
+ghost use Rattle.std.specs.Prelude.{◌≡◌, Ok, Some, [], ◌+◌, ◌*◌, ◌<◌, ◌≤◌, length, get_or, take};
 ghost use Rattle.symplectic.specs.Sizes.{max_qubits, most_rows};
 ghost use Rattle.questions.specs.Replies.{refused};
 ghost use Rattle.gates.specs.Sequences.{table_reply};
 ghost use Rattle.numbers.specs.Numbers.{part};
 ghost use Rattle.job.specs.Files.{qubit_count_lem, entry_count_lem, entry, file_questions_lem};
 ghost use Rattle.lines.specs.Lines.{line};
-ghost use Rattle.lines.specs.Bytes.{line_room, bytes_of, name_bytes};
+ghost use Rattle.lines.specs.Bytes.{line_room, name_bytes};
 ghost use Rattle.printout.specs.Printout.{blank_words, list_words, words_of_bytes, entry_action, call_reply, entry_line, file_lines};
 ghost use Rattle.printout.specs.Pages.{page_reply, Onward, answer_of};
-ghost use Rattle.printout.specs.inner.Held.{Held};
+ghost use Rattle.printout.specs.inner.Held.{entry_number, Held};
+ghost use Rattle.printout.specs.declared.EntryError.TheVariants.{Gates};
 
-use job::FileAnswer;
+use gates::GateActionError;
+use job::{FileError, Kind};
 use lines::{Line, Name};
-use questions::Figures;
+use questions::{Figures, Refusal};
 use symplectic::MOST_ROWS;
+use transvection::clifford_to_transvections;
+use transvection_exact::clifford_to_transvections_minimal;
+
+// The most looks of the search.
+const JOB_BUDGET: u64 = 1000000;
 
 // How many words a list has room for: 4n + 2 at the most qubits.
 const LIST_ROOM: usize = 130;
 
-// What a call for lines answers: how many lines it wrote and how many bytes they take, that there is no such line, or the file's first
-// question that is answered no.
-#[derive(Clone, Copy)]
-pub enum Page {
-    Lines { count: u64, bytes: u64 },
-    NoSuchLine,
-    BadLength,
-    TooManyQubits,
-    BadEntry,
+// How many lines stand in the lent bytes, and how many bytes they take.
+#[derive(Clone, Copy, Debug, PartialEq, Eq, Hash)]
+pub struct Page {
+    pub count: u64,
+    pub bytes: u64,
 }
 
-// Whether the rows of an entry's action were found, or the number of the refusal that stands on both of its lines.
-#[derive(Clone, Copy)]
-enum EntryAction {
-    Rows,
-    Refused { number: u64 },
+// Why the action of an entry is not known: both of its lines tell the refusal.
+#[derive(Clone, Copy, Debug, PartialEq, Eq, Hash)]
+enum EntryError {
+    WrongRowCount,
+    Gates(GateActionError),
 }
 
-#[derive(Clone, Copy)]
-struct EntryRows {
-    found: EntryAction,
-    rows: [u64; MOST_ROWS],
+impl From<GateActionError> for EntryError {
+    ghost from_gives = { λ e r. r ≡ Gates e };
+
+    fn from(e: GateActionError) -> EntryError {
+        EntryError::Gates(e)
+    }
+}
+
+impl Refusal for EntryError {
+    ghost number = { entry_number };
+
+    fn number(self) -> u64 {
+        match self {
+            EntryError::WrongRowCount => 2,
+            EntryError::Gates(e) => e.number(),
+        }
+    }
 }
 
 // ---- the action of an entry
@@ -64,31 +77,19 @@ fn action_rows(file: &[u8], offset: u64, m: u64) -> [u64; MOST_ROWS]
 }
 
 // The action of a sequence of our six gates.
-fn gate_rows(n: u64, bytes: &[u8]) -> EntryRows
+fn gate_rows(n: u64, bytes: &[u8]) -> Result<[u64; MOST_ROWS], EntryError>
     requires { n ≤ max_qubits }
     ensures { Held n (table_reply n bytes.now (blank_words (n + n))) result }
 {
     let mut rows: [u64; MOST_ROWS] = [0; MOST_ROWS];
     let m = (n + n) as usize;
     let sheet = sheets::six_gates();
-    let answer = gates::gate_action(n, &sheet, bytes, &mut rows[..m]);
-    let figures = gates::figures_of(answer);
-    if figures.number == 0 {
-        return EntryRows {
-            found: EntryAction::Rows,
-            rows: rows,
-        };
-    }
-    EntryRows {
-        found: EntryAction::Refused {
-            number: figures.number,
-        },
-        rows: rows,
-    }
+    gates::gate_action(n, &sheet, bytes, &mut rows[..m])?;
+    Ok(rows)
 }
 
 // The action of entry i. Another count of rows than 2n both calls refuse with 2.
-fn entry_rows(file: &[u8], i: u64) -> EntryRows
+fn entry_rows(file: &[u8], i: u64) -> Result<[u64; MOST_ROWS], EntryError>
     requires { (file_questions_lem file.now ≡ 0) × (i < entry_count_lem file.now) }
     ensures { Held (qubit_count_lem file.now) (entry_action file.now (entry file.now i)) result }
 {
@@ -96,22 +97,19 @@ fn entry_rows(file: &[u8], i: u64) -> EntryRows
     let e = job::entry_at(file, i);
     let offset = e.offset as u64;
     let count = e.count as u64;
-    if e.kind == 0 {
-        if count != n + n {
-            return EntryRows {
-                found: EntryAction::Refused { number: 2 },
-                rows: [0; MOST_ROWS],
-            };
+    match e.part_kind() {
+        Kind::Rows => {
+            if count != n + n {
+                return Err(EntryError::WrongRowCount);
+            }
+            Ok(action_rows(file, offset, count))
         }
-        let rows = action_rows(file, offset, count);
-        return EntryRows {
-            found: EntryAction::Rows,
-            rows: rows,
-        };
+        Kind::Gates => {
+            let from = offset as usize;
+            let to = (offset + e.part_size()) as usize;
+            gate_rows(n, &file[from..to])
+        }
     }
-    let from = offset as usize;
-    let to = (offset + job::part_size(e)) as usize;
-    gate_rows(n, &file[from..to])
 }
 
 // ---- the lines of an entry
@@ -119,15 +117,9 @@ fn entry_rows(file: &[u8], i: u64) -> EntryRows
 // The line of a refusal before either call.
 fn refusal_line(n: u64, i: u64, which: Name, number: u64) -> Line
     requires { n ≤ max_qubits }
-    ensures { bytes_of result ≡ line n i (name_bytes which) (refused number 0 []) }
+    ensures { result ≡ line n i (name_bytes which) (refused number 0 []) }
 {
-    let none: [u64; 1] = [0; 1];
-    let figures = Figures {
-        number: number,
-        count: 0,
-        looks: 0,
-    };
-    lines::entry_line(n, i, which, figures, &none[..0])
+    lines::entry_line(n, i, which, questions::nothing_listed(number), &[])
 }
 
 // The call that a name stands for: its figures, and its list in `out`.
@@ -136,15 +128,21 @@ fn call(which: Name, n: u64, rows: &[u64], out: &mut [u64]) -> Figures
     ensures left { out.new ≡ (call_reply which n rows.now out.old).words }
 {
     match which {
-        Name::Min => minimal::list(n, rows, out),
-        Name::Greedy => greedy::list(n, rows, out),
+        Name::Min => {
+            let answer = clifford_to_transvections_minimal(n, rows, JOB_BUDGET, out);
+            transvection_exact::figures_of(answer)
+        }
+        Name::Greedy => {
+            let answer = clifford_to_transvections(n, rows, out);
+            questions::figures_of(answer)
+        }
     }
 }
 
 // The line of the list of an action.
 fn answer_line(n: u64, i: u64, which: Name, rows: [u64; MOST_ROWS]) -> Line
     requires { n ≤ max_qubits }
-    ensures { bytes_of result ≡ line n i (name_bytes which) (call_reply which n (take (n + n) rows) (list_words n)) }
+    ensures { result ≡ line n i (name_bytes which) (call_reply which n (take (n + n) rows) (list_words n)) }
 {
     let mut out: [u64; LIST_ROOM] = [0; LIST_ROOM];
     let m = (n + n) as usize;
@@ -156,15 +154,12 @@ fn answer_line(n: u64, i: u64, which: Name, rows: [u64; MOST_ROWS]) -> Line
 // The line of a name, of entry i.
 fn line_of(file: &[u8], i: u64, which: Name) -> Line
     requires { (file_questions_lem file.now ≡ 0) × (i < entry_count_lem file.now) }
-    ensures { bytes_of result ≡ entry_line file.now i which }
+    ensures { result ≡ entry_line file.now i which }
 {
     let n = job::qubit_count(file);
-    let action = entry_rows(file, i);
-    let found = action.found;
-    let rows = action.rows;
-    match found {
-        EntryAction::Rows => answer_line(n, i, which, rows),
-        EntryAction::Refused { number } => refusal_line(n, i, which, number),
+    match entry_rows(file, i) {
+        Ok(rows) => answer_line(n, i, which, rows),
+        Err(e) => refusal_line(n, i, which, e.number()),
     }
 }
 
@@ -173,7 +168,7 @@ fn line_of(file: &[u8], i: u64, which: Name) -> Line
 // Line k of the printout.
 fn line_at(file: &[u8], k: u64) -> Line
     requires { (file_questions_lem file.now ≡ 0) × (k < 2 * entry_count_lem file.now) }
-    ensures { bytes_of result ≡ get_or (file_lines file.now) k [] }
+    ensures { result ≡ get_or (file_lines file.now) k [] }
 {
     let i = k / 2;
     if k % 2 == 0 {
@@ -186,50 +181,39 @@ fn line_at(file: &[u8], k: u64) -> Line
 // The lines from `from` on, as many as `out` has room for, of a file that passes its questions.
 fn fill_page(file: &[u8], from: u64, last: u64, out: &mut [u8]) -> Page
     requires { (file_questions_lem file.now ≡ 0) × (last ≡ 2 * entry_count_lem file.now) × (from < last) }
-    ensures answered { answer_of result ≡ (page_reply file.now from out.old).answer }
+    ensures answered { answer_of (Ok (Some result)) ≡ (page_reply file.now from out.old).answer }
     ensures left { out.new ≡ (page_reply file.now from out.old).bytes }
-    ensures onward { line_room ≤ length out.old → Onward (answer_of result) }
+    ensures onward { line_room ≤ length out.old → Onward (answer_of (Ok (Some result))) }
 {
     let mut used: usize = 0;
     let mut k = from;
     while k < last {
         let l = line_at(file, k);
-        let size = lines::length_of(l);
+        let size = l.len();
         if out.len() - used < size {
             break;
         }
-        lines::lay(l, &mut out[used..]);
+        l.lay(&mut out[used..]);
         used += size;
         k += 1;
     }
-    Page::Lines {
+    Page {
         count: k - from,
         bytes: used as u64,
     }
 }
 
-// The lines of the printout from line `from` on, as many whole ones as `out` has room for. Line 2i is the minimal list of entry i, line
-// 2i + 1 its greedy list. A page with room for the longest line has a line, where one is left.
-pub fn print_page(file: &[u8], from: u64, out: &mut [u8]) -> Page
+// The lines of the printout from line `from` on, as many whole ones as `out` has room for, or none where there is no such line. Line 2i is
+// the minimal list of entry i, line 2i + 1 its greedy list. A page with room for the longest line has a line, where one is left.
+pub fn print_page(file: &[u8], from: u64, out: &mut [u8]) -> Result<Option<Page>, FileError>
     ensures answered { answer_of result ≡ (page_reply file.now from out.old).answer }
     ensures left { out.new ≡ (page_reply file.now from out.old).bytes }
     ensures onward { line_room ≤ length out.old → Onward (answer_of result) }
 {
-    match job::file_questions(file) {
-        FileAnswer::Passed => {}
-        FileAnswer::BadLength => {
-            return Page::BadLength;
-        }
-        FileAnswer::TooManyQubits => {
-            return Page::TooManyQubits;
-        }
-        FileAnswer::BadEntry => {
-            return Page::BadEntry;
-        }
-    }
+    job::file_questions(file)?;
     let last = 2 * job::entry_count(file);
     if last <= from {
-        return Page::NoSuchLine;
+        return Ok(None);
     }
-    fill_page(file, from, last, out)
+    Ok(Some(fill_page(file, from, last, out)))
 }

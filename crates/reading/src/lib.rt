@@ -7,17 +7,6 @@ ghost use Rattle.std.specs.Io.KnownBytes.{Consumes};
 
 use std::io::Read;
 
-// How many bytes of buf a read filled: none where it failed.
-fn read_some<R: Read>(input: &mut R, buf: &mut [u8]) -> usize
-    ensures within { result ≤ length buf.new }
-    ensures bytes { Consumes (R.remaining input.old) (R.remaining input.new) (take result buf.new) }
-{
-    match input.read(buf) {
-        Ok(n) => n,
-        Err(_) => 0,
-    }
-}
-
 // Reads until buf is full, the input ends or a read fails, and answers how many bytes it put at the start of buf.
 pub fn read_full<R: Read>(input: &mut R, buf: &mut [u8]) -> usize
     ensures within { result ≤ length buf.new }
@@ -25,11 +14,10 @@ pub fn read_full<R: Read>(input: &mut R, buf: &mut [u8]) -> usize
 {
     let mut done = 0;
     while done < buf.len() {
-        let n = read_some(input, &mut buf[done..]);
-        if n == 0 {
-            return done;
+        match input.read(&mut buf[done..]) {
+            Ok(0) | Err(_) => break,
+            Ok(n) => done += n,
         }
-        done += n;
     }
     done
 }

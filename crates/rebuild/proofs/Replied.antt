@@ -7,6 +7,7 @@ use Prim.Native.Nat.{ℕ, suc, ◌+◌, ◌≤◌, ◌<◌}
 use lib.ListN.{length}
 use Rattle.blocks.specs.Words.{rows_of_words, laid}
 use Rattle.blocks.proofs.Values.{rows_count}
+use Rattle.std.specs.Prelude.{Ok, Err}
 use Rattle.symplectic.specs.Sizes.{max_qubits}
 use Rattle.symplectic.specs.Turns.{product}
 use Rattle.questions.specs.declared.Figures.{Figures}
@@ -16,7 +17,7 @@ use Rattle.symplectic.proofs.Products.{product_length}
 use Rattle.symplectic.proofs.Matches.{fit_all_lem}
 use Rattle.questions.proofs.Questions.{size_refused, size_passed, size_known, count_refused, count_passed, count_known, ask_passed}
 use Rattle.questions.proofs.Answered.{Meets, Holds, meets_refused, meets_answer, rebuilds}
-use Rattle.rebuild.specs.declared.Rebuilt.TheVariants.{Rows, TooManyQubits, WrongRowCount, VectorTooWide}
+use Rattle.rebuild.specs.declared.RebuildError.TheVariants.{TooManyQubits, WrongRowCount, VectorTooWide}
 use Rattle.rebuild.specs.Answers.{figures_of_lem}
 use Rattle.rebuild.specs.Rebuilds.{rebuild_questions, rebuild_reply}
 
@@ -65,25 +66,25 @@ module _ (n : ℕ) (list out : List ℕ) where
   unfolding rebuild_reply
   rebuild_refused k t = meets_refused Promised asked out answer rebuild_rebuilds t k
 
-  pub rebuild_1 : max_qubits < n → Meets Promised (rebuild_reply n list out) out (figures_of_lem TooManyQubits)
-  rebuild_1 h = rebuild_refused 0 (figures_of_lem TooManyQubits) (asked_1 n (rows_of_words n list) (rows_of_words n out) h) refl
+  pub rebuild_1 : max_qubits < n → Meets Promised (rebuild_reply n list out) out (figures_of_lem (Err TooManyQubits))
+  rebuild_1 h = rebuild_refused 0 (figures_of_lem (Err TooManyQubits)) (asked_1 n (rows_of_words n list) (rows_of_words n out) h) refl
 
   module _ (size : n ≤ max_qubits) where
-    pub rebuild_2 : (length out ≡ n + n → ⊥) → Meets Promised (rebuild_reply n list out) out (figures_of_lem WrongRowCount)
+    pub rebuild_2 : (length out ≡ n + n → ⊥) → Meets Promised (rebuild_reply n list out) out (figures_of_lem (Err WrongRowCount))
     rebuild_2 h =
-        rebuild_refused 1 (figures_of_lem WrongRowCount) (asked_2 n (rows_of_words n list) (rows_of_words n out) size (λ e. h (sym (rows_count n out) ∙ e))) refl
+        rebuild_refused 1 (figures_of_lem (Err WrongRowCount)) (asked_2 n (rows_of_words n list) (rows_of_words n out) size (λ e. h (sym (rows_count n out) ∙ e))) refl
 
     module _ (lent : length out ≡ n + n) where
       passed : rebuild_questions n (rows_of_words n list) (rows_of_words n out) ≡ ask (fit_all (n + n) (rows_of_words n list)) 8 0
       passed = counted n (rows_of_words n list) (rows_of_words n out) size (rows_count n out ∙ lent)
 
-      pub rebuild_8 : fit_all (n + n) (rows_of_words n list) ≡ false → Meets Promised (rebuild_reply n list out) out (figures_of_lem VectorTooWide)
-      rebuild_8 f = rebuild_refused 7 (figures_of_lem VectorTooWide) (passed ∙ ap (λ (b : Bool). ask b 8 0) f) refl
+      pub rebuild_8 : fit_all (n + n) (rows_of_words n list) ≡ false → Meets Promised (rebuild_reply n list out) out (figures_of_lem (Err VectorTooWide))
+      rebuild_8 f = rebuild_refused 7 (figures_of_lem (Err VectorTooWide)) (passed ∙ ap (λ (b : Bool). ask b 8 0) f) refl
 
       -- an answer lays the product into the words
       pub rebuild_listed : (left : List ℕ) → fit_all (n + n) (rows_of_words n list) ≡ true → left ≡ laid n (product n (rows_of_words n list)) out
-          → Meets Promised (rebuild_reply n list out) left (figures_of_lem (Rows (n + n)))
+          → Meets Promised (rebuild_reply n list out) left (figures_of_lem (Ok (n + n)))
       unfolding rebuild_reply
       rebuild_listed left f l =
-          meets_answer Promised asked out answer rebuild_rebuilds (figures_of_lem (Rows (n + n))) (passed ∙ ap (λ (b : Bool). ask b 8 0) f) left
-          (ap (λ (k : ℕ). figures_of_lem (Rows k)) (sym (product_length n (rows_of_words n list)))) l
+          meets_answer Promised asked out answer rebuild_rebuilds (figures_of_lem (Ok (n + n))) (passed ∙ ap (λ (b : Bool). ask b 8 0) f) left
+          (ap (λ (k : ℕ). figures_of_lem (Ok k)) (sym (product_length n (rows_of_words n list)))) l

@@ -1,12 +1,15 @@
--- What the answer of a rebuild says: document 01's number, and how many rows stand in the lent words.
+-- What the answer of a rebuild says: document 01's number, or how many rows stand in the lent words. Open to users.
 -- Assumes nothing.
+use Rattle.std.specs.Prelude.{ℕ, Result}
 use Rattle.questions.specs.declared.Figures.{Figures}
-use Rattle.rebuild.specs.declared.Rebuilt.{Rebuilt}
-use Rattle.rebuild.specs.declared.Rebuilt.TheVariants.{Rows, TooManyQubits, WrongRowCount, VectorTooWide}
+use Rattle.questions.specs.Answers.{answer_figures}
+use Rattle.rebuild.specs.declared.RebuildError.{RebuildError}
+use Rattle.rebuild.specs.declared.RebuildError.TheVariants.{TooManyQubits, WrongRowCount, VectorTooWide}
 
--- open to users
-abbrev pub figures_of_lem : Rebuilt → Figures
-figures_of_lem (Rows count) = record { number = 0; count = count; looks = 0 }
-figures_of_lem TooManyQubits = record { number = 1; count = 0; looks = 0 }
-figures_of_lem WrongRowCount = record { number = 2; count = 0; looks = 0 }
-figures_of_lem VectorTooWide = record { number = 8; count = 0; looks = 0 }
+abbrev pub rebuild_number : RebuildError → ℕ
+rebuild_number TooManyQubits = 1
+rebuild_number WrongRowCount = 2
+rebuild_number VectorTooWide = 8
+
+abbrev pub figures_of_lem : Result ℕ RebuildError → Figures
+figures_of_lem r = answer_figures rebuild_number r

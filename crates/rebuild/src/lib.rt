@@ -9,46 +9,30 @@ ghost use Rattle.actions.specs.Actions.{qubits, matrix};
 ghost use Rattle.symplectic.specs.Turns.{product};
 ghost use Rattle.questions.specs.Replies.{Rebuilds};
 ghost use Rattle.rebuild.specs.Rebuilds.{rebuild_reply};
-ghost use Rattle.rebuild.specs.Answers.{figures_of_lem};
+ghost use Rattle.rebuild.specs.Answers.{rebuild_number, figures_of_lem};
 
 use actions::Action;
-use questions::Figures;
+use binar::Row;
+use questions::Refusal;
 use symplectic::MAX_QUBITS;
 
-// What a rebuild answers: how many rows it listed, or the first question that is answered no.
-#[derive(Clone, Copy)]
-pub enum Rebuilt {
-    Rows { count: u64 },
+// Which question of a rebuild is answered no.
+#[derive(Clone, Copy, Debug, PartialEq, Eq, Hash)]
+pub enum RebuildError {
     TooManyQubits,
     WrongRowCount,
     VectorTooWide,
 }
 
-// The number and the count that an answer stands for.
-pub fn figures_of(r: Rebuilt) -> Figures
-    ensures { result ≡ figures_of_lem r }
-{
-    match r {
-        Rebuilt::Rows { count } => Figures {
-            number: 0,
-            count: count,
-            looks: 0,
-        },
-        Rebuilt::TooManyQubits => Figures {
-            number: 1,
-            count: 0,
-            looks: 0,
-        },
-        Rebuilt::WrongRowCount => Figures {
-            number: 2,
-            count: 0,
-            looks: 0,
-        },
-        Rebuilt::VectorTooWide => Figures {
-            number: 8,
-            count: 0,
-            looks: 0,
-        },
+impl Refusal for RebuildError {
+    ghost number = { rebuild_number };
+
+    fn number(self) -> u64 {
+        match self {
+            RebuildError::TooManyQubits => 1,
+            RebuildError::WrongRowCount => 2,
+            RebuildError::VectorTooWide => 8,
+        }
     }
 }
 
@@ -58,9 +42,8 @@ fn product_in(n: u64, list: &[u64], w: &mut [u64]) -> Action
     ensures { (qubits result ≡ capped n) × (matrix result ≡ product (capped n) (rows_of_words n list.now)) }
 {
     symplectic::put_identity(n, w);
-    for i in 0..list.len() {
-        let v = binar::of_word(list[i]);
-        symplectic::follow(n, w, v);
+    for v in list {
+        symplectic::follow(n, w, Row::from(*v));
     }
     actions::from_rows(n, &w[..])
 }
@@ -75,22 +58,22 @@ pub fn product_of(n: u64, list: &[u64]) -> Action
     product_in(n, list, &mut w[..to])
 }
 
-// The product of the turns of a list, in exactly 2n lent rows.
-pub fn rebuild(n: u64, list: &[u64], out: &mut [u64]) -> Rebuilt
+// The product of the turns of a list, in exactly 2n lent rows: how many these are.
+pub fn rebuild(n: u64, list: &[u64], out: &mut [u64]) -> Result<u64, RebuildError>
     ensures answered { figures_of_lem result ≡ (rebuild_reply n list.now out.old).figures }
     ensures left { out.new ≡ (rebuild_reply n list.now out.old).words }
     ensures replays { Rebuilds n (rows_of_words n list.now) out.new (figures_of_lem result) }
 {
     if MAX_QUBITS < n {
-        return Rebuilt::TooManyQubits;
+        return Err(RebuildError::TooManyQubits);
     }
     let count = n + n;
     if out.len() != count as usize {
-        return Rebuilt::WrongRowCount;
+        return Err(RebuildError::WrongRowCount);
     }
     if !questions::words_fit(n, list) {
-        return Rebuilt::VectorTooWide;
+        return Err(RebuildError::VectorTooWide);
     }
     actions::store(product_of(n, list), out);
-    Rebuilt::Rows { count: count }
+    Ok(count)
 }

@@ -1,67 +1,102 @@
-// What the programs that replay reference answers share: words compared, records counted.
+// What the programs that replay reference answers share: records read one by one, compared, and counted by their kinds.
 // Not in the source.
 #![tactic(auto)]
 
-ghost use Rattle.std.specs.Prelude.{◌≡◌, true};
-ghost use Rattle.records.specs.Scores.{one_more, counted_in};
+pub mod score;
+pub mod words;
 
-// Whether the words are the same.
-pub fn same(a: &[u64], b: &[u64]) -> bool
-    ensures { (result ≡ true → a.now ≡ b.now) × (a.now ≡ b.now → result ≡ true) }
-{
-    if a.len() != b.len() {
-        return false;
-    }
-    let mut i = 0;
-    while i < a.len() {
-        if a[i] != b[i] {
-            return false;
-        }
-        i += 1;
-    }
-    true
+ghost use Rattle.std.specs.Prelude.{◌≡◌, ◌≤◌, ◌<◌, ℕ, length, IfSome, IsErrOf, IsOk, ◌↔◌};
+
+use reading::read_full;
+use score::{Score, Verdict};
+use std::io::Read;
+
+// How many bytes a header has room for, and what stands behind it.
+const HEAD_ROOM: usize = 64;
+
+const ROOM: usize = 4096;
+
+// At most as many records are read.
+const MOST: u64 = 100000;
+
+// A record, as its header tells it.
+pub trait Record<const KINDS: usize>: Copy {
+    // How many bytes the header has.
+    ghost HEAD: { ℕ };
+
+    const HEAD: usize;
+
+    // How many bytes stand behind the header.
+    ghost size: { Self → ℕ };
+
+    // The record of a header; none where it asks for too much room.
+    fn of_head(head: &[u8]) -> Option<Self>
+        requires { length head.now ≡ HEAD };
+
+    fn size(&self) -> usize
+        ensures { result ≡ size self.now };
+
+    // Makes the call of the record and compares; none where no kind is known.
+    fn verdict(&self, bytes: &[u8]) -> Option<Verdict>
+        requires { length bytes.now ≡ size self.now }
+        ensures { IfSome result (λ v. v.kind < KINDS) };
+
+    ghost head_has_room: { HEAD ≤ 64 };
+
+    ghost has_room: { (r : Self) → size r ≤ 4096 };
 }
 
-// One more, as far as 64 bits go.
-pub fn more(x: u64) -> u64
-    ensures { result ≡ one_more x }
-{
-    if x < u64::MAX { x + 1 } else { x }
-}
-
-// How many records agree and differ, how many were not read, and whether there is no more to read.
+// Why no record comes next: the input ends before it, or it is cut short or asks for too much room.
 #[derive(Clone, Copy)]
-pub struct Score {
-    pub agree: u64,
-    pub differ: u64,
-    pub unread: u64,
-    pub ended: bool,
+enum End {
+    NoMore,
+    CutShort,
 }
 
-pub fn ended(t: Score) -> Score
-    ensures { result ≡ record { agree = t.agree; differ = t.differ; unread = t.unread; ended = true } }
+// Whether all the bytes came that were asked for.
+fn whole(got: usize, size: usize) -> Result<(), End>
+    ensures { (IsErrOf result End.CutShort ↔ (got < size)) × (IsOk result ↔ (size ≤ got)) }
 {
-    let mut s = t;
-    s.ended = true;
-    s
-}
-
-pub fn one_unread(t: Score) -> Score
-    ensures { result ≡ record { agree = t.agree; differ = t.differ; unread = one_more t.unread; ended = t.ended } }
-{
-    let mut s = t;
-    s.unread = more(s.unread);
-    s
-}
-
-pub fn counted(t: Score, agrees: bool) -> Score
-    ensures { result ≡ counted_in t agrees }
-{
-    let mut s = t;
-    if agrees {
-        s.agree = more(s.agree);
-    } else {
-        s.differ = more(s.differ);
+    if got < size {
+        return Err(End::CutShort);
     }
-    s
+    Ok(())
+}
+
+// Reads a record and counts it.
+fn next_record<const KINDS: usize, R: Record<KINDS>>(
+    input: &mut impl Read,
+    score: &mut Score<KINDS>,
+) -> Result<(), End> {
+    let mut head = [0u8; HEAD_ROOM];
+    let head = &mut head[..R::HEAD];
+    let got = read_full(input, head);
+    if got == 0 {
+        return Err(End::NoMore);
+    }
+    whole(got, R::HEAD)?;
+    let record = R::of_head(head).ok_or(End::CutShort)?;
+    let size = record.size();
+    let mut bytes = [0u8; ROOM];
+    whole(read_full(input, &mut bytes[..size]), size)?;
+    match record.verdict(&bytes[..size]) {
+        Some(v) => score.count(v),
+        None => score.one_unread(),
+    }
+    Ok(())
+}
+
+// Reads the records one by one and counts them, to the end of the input. A record that is cut short or asks for too much room is the last
+// one and counts as not read; so does input whose end is not met by MOST records.
+pub fn read_all<const KINDS: usize, R: Record<KINDS>>(input: &mut impl Read) -> Score<KINDS> {
+    let mut score = Score::<KINDS>::new();
+    for _ in 0..MOST {
+        match next_record::<KINDS, R>(input, &mut score) {
+            Ok(()) => {}
+            Err(End::NoMore) => return score,
+            Err(End::CutShort) => break,
+        }
+    }
+    score.one_unread();
+    score
 }

@@ -1,12 +1,9 @@
--- One turn of a loop, and its end: the search of a column's first row, the pivots, the reduction's two lists.
+-- One turn of a loop, and its end: the pivots, the reduction's two lists.
 -- Assumes nothing.
 use mathlib.Core.Path.{◌≡◌, sym, ap, ◌∙◌, subst}
-use mathlib.Core.Bool.{Bool, false}
 use mathlib.Core.List.{List, map, zip}
-use mathlib.Core.Logic.{⊎_elim}
-use Prim.Native.Nat.{ℕ, ◌+◌, ◌-◌, ◌≤◌, ◌<◌}
+use Prim.Native.Nat.{ℕ, ◌+◌, ◌-◌, ◌≤◌}
 use native.Mathlib.Omega.{arith}
-use native.Mathlib.Nat.{eq-or-lt_of_le}
 use lib.ListN.{length, take, drop, take-append-drop}
 use lib.Seq.{take_all, take-length, length-take-le, drop-drop}
 use Rattle.binar.specs.Bits.{bit}
@@ -16,12 +13,6 @@ use Rattle.reduction.specs.Columns.{Echelon, unreduced, rows, columns, row_reduc
 use Rattle.reduction.specs.inner.Sweeps.{halves, ReducedIn}
 use Rattle.reduction.proofs.Transform.{up_rank}
 use Rattle.reduction.proofs.TwoLists.{zip_length, above_left, above_right}
-
--- ---- the search
-
--- none before, nor here
-pub none_more : (has : ℕ → Bool) (p i : ℕ) → ((x : ℕ) → p ≤ x → x < i → has x ≡ false) → has i ≡ false → (x : ℕ) → p ≤ x → x < i + 1 → has x ≡ false
-none_more has p i f e x a l = ⊎_elim (λ q. ap has q ∙ e) (λ q. f x a q) (eq-or-lt_of_le (omega arith))
 
 -- ---- the numbers behind the pivots
 

@@ -2,7 +2,7 @@
 // In the source: transvection_exact.rs, `row_reduce_with_transform`.
 #![tactic(auto)]
 
-ghost use Rattle.std.specs.Prelude.{◌≡◌, true, false, ℕ, ◌≤◌, ◌<◌, get_or, take, drop, length};
+ghost use Rattle.std.specs.Prelude.{◌≡◌, true, false, ℕ, ◌≤◌, ◌<◌, get_or, take, drop, length, MatchOption};
 ghost use mathlib.Core.List.{map, zip};
 ghost use Rattle.binar.specs.Bits.{bit as bit_of};
 ghost use Rattle.binar.specs.Rows.{val, width};
@@ -15,19 +15,13 @@ ghost use Rattle.reduction.specs.inner.Sweeps.{halves, swapped, cleared, swept, 
 
 use binar::{Row, WIDTH};
 
-// The first row from p on that has column c; the count where there is none.
-fn first_with(a: &[u64], c: usize, p: usize) -> usize
-    requires { p ≤ length (rows_in_lem a.now) }
-    ensures { (p ≤ result) × (result ≤ length (rows_in_lem a.now)) × ((i : ℕ) → p ≤ i → i < result → bit_of c (get_or (rows_in_lem a.now) i 0) ≡ false)
-        × (result < length (rows_in_lem a.now) → bit_of c (get_or (rows_in_lem a.now) result 0) ≡ true) }
+// The first row from p on that has column c.
+fn first_with(a: &[u64], c: usize, p: usize) -> Option<usize>
+    ensures { MatchOption result ((i : ℕ) → p ≤ i → i < length (rows_in_lem a.now) → bit_of c (get_or (rows_in_lem a.now) i 0) ≡ false)
+        (λ j. (p ≤ j) × (j < length (rows_in_lem a.now)) × (bit_of c (get_or (rows_in_lem a.now) j 0) ≡ true)
+        × ((i : ℕ) → p ≤ i → i < j → bit_of c (get_or (rows_in_lem a.now) i 0) ≡ false)) }
 {
-    let k = blocks::rows_in(a);
-    for i in p..k {
-        if binar::bit(blocks::row(a, i), c) {
-            return i;
-        }
-    }
-    k
+    (p..blocks::rows_in(a)).find(|i| blocks::row(a, *i).bit(c))
 }
 
 // Exchanges rows i and j.
@@ -46,12 +40,12 @@ fn clear(c: usize, v: Row, w: Row, a: &mut [u64], t: &mut [u64])
     ensures { zip (rows_in_lem a.new) (rows_in_lem t.new) ≡ cleared c (val v, val w) (zip (rows_in_lem a.old) (rows_in_lem t.old)) }
 {
     // the lesser of two equal counts, so that neither is asked in the loop
-    let k = blocks::lesser(blocks::rows_in(a), blocks::rows_in(t));
+    let k = blocks::rows_in(a).min(blocks::rows_in(t));
     for i in 0..k {
         let x = blocks::row(a, i);
-        let has = binar::bit(x, c);
-        blocks::put(a, i, binar::added(x, v, has));
-        blocks::put(t, i, binar::added(blocks::row(t, i), w, has));
+        let has = x.bit(c);
+        blocks::put(a, i, x.added(v, has));
+        blocks::put(t, i, blocks::row(t, i).added(w, has));
     }
 }
 
@@ -74,10 +68,9 @@ fn by_column(c: usize, p: usize, a: &mut [u64], t: &mut [u64], pivots: &mut [usi
         × (halves result (take result pivots.new) (zip (rows_in_lem a.new) (rows_in_lem t.new))
         ≡ column (0, 0) add_both c (λ x. bit_of c x.0) (halves p (take p pivots.old) (zip (rows_in_lem a.old) (rows_in_lem t.old)))) }
 {
-    let j = first_with(a, c, p);
-    if blocks::rows_in(a) <= j {
+    let Some(j) = first_with(a, c, p) else {
         return p;
-    }
+    };
     exchange(a, p, j);
     exchange(t, p, j);
     sweep(c, p, a, t);
@@ -111,7 +104,7 @@ fn put_units(t: &mut [u64])
 {
     let k = blocks::rows_in(t);
     for i in 0..k {
-        blocks::put(t, i, binar::unit(i));
+        blocks::put(t, i, Row::unit(i));
     }
 }
 
@@ -144,8 +137,8 @@ pub fn row_reduce_with_transform(
     ensures ascending { Ascending result (take result pivots.new) }
     ensures within { All (λ p. p < m) (take result pivots.new) }
 {
-    let both = blocks::lesser(blocks::rows_in(a), blocks::rows_in(t));
-    let k = blocks::lesser(WIDTH, blocks::lesser(pivots.len(), both));
+    let both = blocks::rows_in(a).min(blocks::rows_in(t));
+    let k = WIDTH.min(pivots.len().min(both));
     let to = blocks::start(a, k);
     let until = blocks::start(t, k);
     reduce(m, &mut a[..to], &mut t[..until], pivots)

@@ -4,17 +4,18 @@
 // Not in the source.
 #![tactic(auto)]
 
-mod score;
-
-ghost use Rattle.std.specs.Prelude.{◌≡◌, true, ◌+◌, ◌*◌, ◌≤◌, length};
-ghost use Rattle.replay_sheets.specs.inner.Records.{HasRoom};
+ghost use Rattle.std.specs.Prelude.{◌≡◌, ◌+◌, ◌*◌, ◌≤◌, length};
+ghost use Rattle.std.proofs.Common.{rules};
+ghost use Rattle.replay_sheets.specs.Sizes.{bytes_have_room};
 
 use numbers::number_at;
-use records::same;
+use records::Record;
+use records::score::Verdict;
+use records::words::{FILL, alike, words_of};
 use std::io;
 
-// What each output word holds before a call.
-const FILL: u64 = 0xa5a5a5a5a5a5a5a5;
+// How many output words there are at most.
+const ROOM: usize = 66;
 
 // A record's header: how many bytes the sheet and the sequence take, how many rows follow, how many output words are lent, the qubit count,
 // and the numbers that the load, the call with the lent sheet and the call with the sheet in force answer.
@@ -28,101 +29,85 @@ struct Case {
     loaded: u64,
     lent: u64,
     in_force: u64,
+    ghost sheet_fits: { sheet ≤ 2048 },
+    ghost gates_fit: { gates ≤ 1024 },
+    ghost rows_fit: { count ≤ 64 },
+    ghost output_fits: { room ≤ 66 },
 }
 
-fn case_of(head: &[u8]) -> Case {
-    Case {
-        sheet: number_at(head, 0, 0, 4) as usize,
-        gates: number_at(head, 0, 4, 4) as usize,
-        count: number_at(head, 0, 8, 2) as usize,
-        room: number_at(head, 0, 10, 2) as usize,
-        loaded: number_at(head, 0, 12, 1),
-        lent: number_at(head, 0, 13, 1),
-        in_force: number_at(head, 0, 14, 1),
-        n: number_at(head, 0, 16, 8),
+impl Record<1> for Case {
+    ghost HEAD = { 24 };
+
+    const HEAD: usize = 24;
+
+    ghost size = { λ c. c.sheet + c.gates + 8 * c.count };
+
+    ghost head_has_room = { Prim.search rules };
+
+    ghost has_room = { λ c. bytes_have_room c.sheet c.gates c.count c.sheet_fits c.gates_fit c.rows_fit };
+
+    fn of_head(head: &[u8]) -> Option<Case> {
+        let sheet = number_at(head, 0, 0, 4) as usize;
+        let gates = number_at(head, 0, 4, 4) as usize;
+        let count = number_at(head, 0, 8, 2) as usize;
+        let room = number_at(head, 0, 10, 2) as usize;
+        if 2048 < sheet || 1024 < gates || 64 < count || ROOM < room {
+            return None;
+        }
+        Some(Case {
+            sheet,
+            gates,
+            count,
+            room,
+            loaded: number_at(head, 0, 12, 1),
+            lent: number_at(head, 0, 13, 1),
+            in_force: number_at(head, 0, 14, 1),
+            n: number_at(head, 0, 16, 8),
+        })
+    }
+
+    fn size(&self) -> usize {
+        self.sheet + self.gates + 8 * self.count
+    }
+
+    fn verdict(&self, bytes: &[u8]) -> Option<Verdict> {
+        Some(Verdict {
+            kind: 0,
+            agrees: agrees(self, bytes),
+        })
     }
 }
 
-// Whether a record has room in the buffers.
-fn fits(c: Case) -> bool
-    ensures { result ≡ true → HasRoom c }
-{
-    if 2048 < c.sheet {
-        return false;
-    }
-    if 1024 < c.gates {
-        return false;
-    }
-    if 64 < c.count {
-        return false;
-    }
-    c.room <= 66
-}
-
-fn blank() -> [u64; 66]
-    ensures { 66 ≡ length result }
-{
-    [FILL; 66]
-}
-
-// The output words that hold some rows.
-fn rows_of(count: usize, bytes: &[u8]) -> [u64; 66]
-    requires { count ≤ 64 }
-    ensures { 66 ≡ length result }
-{
-    let mut words = blank();
-    for i in 0..count {
-        words[i] = number_at(bytes, 0, 8 * i as u64, 8);
-    }
-    words
-}
-
-// How many rows an answer lists, by its number.
-fn listed(count: usize, number: u64) -> usize
-    ensures { result ≤ count }
-{
-    if number == 0 { count } else { 0 }
+// The figures of a call of a sequence.
+fn play(n: u64, sheet: &[u8], gates: &[u8], out: &mut [u64]) -> [u64; 3] {
+    let f = questions::figures_of(gates::gate_action(n, sheet, gates, out));
+    [f.number, f.count, f.looks]
 }
 
 // Plays a sequence with a sheet and compares all that the call answers and leaves: a refusal leaves every word.
-fn plays(c: Case, number: u64, sheet: &[u8], gates: &[u8], rows: &[u8]) -> bool
-    requires { HasRoom c }
-{
-    let count = listed(c.count, number);
-    let want = rows_of(count, rows);
-    let mut out = blank();
-    let answer = gates::gate_action(c.n, sheet, gates, &mut out[..c.room]);
-    let f = gates::figures_of(answer);
-    let want_figures = [number, count as u64, 0];
-    let figures = [f.number, f.count, f.looks];
-    if !same(&want_figures, &figures) {
-        return false;
-    }
-    same(&want, &out)
+fn plays(c: &Case, number: u64, sheet: &[u8], gates: &[u8], rows: &[u8]) -> bool {
+    let count = if number == 0 { c.count } else { 0 };
+    let want = words_of::<ROOM>(rows, 8, count);
+    let mut out = [FILL; ROOM];
+    let figures = play(c.n, sheet, gates, &mut out[..c.room]);
+    alike([number, count as u64, 0], figures, &want, &out)
 }
 
 // Loads the sheet of a record, and plays its sequence twice.
-fn agrees(c: Case, bytes: &[u8]) -> bool
-    requires { HasRoom c × (length bytes.now ≡ c.sheet + c.gates + 8 * c.count) }
+fn agrees(c: &Case, bytes: &[u8]) -> bool
+    requires { length bytes.now ≡ c.now.sheet + c.now.gates + 8 * c.now.count }
 {
-    let sheet_count = c.sheet;
-    let gate_count = c.gates;
-    let sheet = &bytes[..sheet_count];
-    let behind = &bytes[sheet_count..];
-    let gates = &behind[..gate_count];
-    let rows = &behind[gate_count..];
+    let (sheet, behind) = bytes.split_at(c.sheet);
+    let (gates, rows) = behind.split_at(c.gates);
     let former = sheets::six_gates();
-    let mut number: u64 = 0;
-    let in_force = sheets::load_sheet(sheet, &former, &mut number);
-    if number != c.loaded {
-        return false;
-    }
-    if !plays(c, c.lent, sheet, gates, rows) {
-        return false;
-    }
-    plays(c, c.in_force, in_force, gates, rows)
+    let loaded = sheets::load_sheet(sheet, &former);
+    questions::asked_number(loaded.asked) == c.loaded
+        && plays(c, c.lent, sheet, gates, rows)
+        && plays(c, c.in_force, loaded.in_force, gates, rows)
 }
 
 fn main(rt: HostRuntime) -> io::Result<()> {
-    score::run(&rt, &mut rt.stdin())
+    let score = records::read_all::<1, Case>(&mut rt.stdin());
+    println!(rt; "sheets {}", score.kinds[0])?;
+    score.print_unread(&rt)
 }

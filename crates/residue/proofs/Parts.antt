@@ -1,11 +1,10 @@
--- The rows of I + F one by one, a list with its first members behind the others, and words that the residue was reduced in: the basis, the core.
+-- The rows of I + F one by one, and words that the residue was reduced in: the basis, the core.
 -- Assumes nothing.
 use mathlib.Core.Path.{◌≡◌, sym, ap, ap₂, ◌∙◌}
 use mathlib.Core.List.{List, ◌++◌, map}
-use Prim.Native.Nat.{ℕ, ◌+◌, ◌-◌, ◌^◌, ◌≤◌, ◌<◌}
+use Prim.Native.Nat.{ℕ, ◌+◌, ◌^◌, ◌≤◌, ◌<◌}
 use native.Mathlib.Omega.{arith}
-use lib.ListN.{length, take, drop, get_or, length-map, length-append, length-drop, length-take, get_or-append}
-use lib.Seq.{get_or-append-add, get_or-take, get_or-drop}
+use lib.ListN.{length, take, drop, get_or, length-map, length-append, length-drop, length-take}
 use Rattle.binar.specs.Bits.{◌⊕◌}
 use Rattle.binar.specs.Rows.{width}
 use Rattle.binar.proofs.Sums.{sum_comm}
@@ -52,18 +51,6 @@ pub residue_over : (n : ℕ) (F : List ℕ) (k : ℕ) (x l : List ℕ) → x ≡
 unfolding residue
 residue_over n F k x l is e =
     let P = identity_plus n F in is ∙ ap (λ (j : ℕ). over (drop j P ++ take j P) l) e
-
--- ---- a list with its first k members behind the others
-
-pub lower_at : (k i : ℕ) (l : List ℕ) → i + k < length l → get_or (drop k l ++ take k l) i 0 ≡ get_or l (i + k) 0
-lower_at k i l h =
-    get_or-append (drop k l) (take k l) 0 i (omega (arith, length-drop k l)) ∙ get_or-drop k l i 0 ∙ ap (λ j. get_or l j 0) (omega arith)
-
-pub upper_at : (k i : ℕ) (l : List ℕ) → k ≤ length l → length l ≤ i + k → i < length l → get_or (drop k l ++ take k l) i 0 ≡ get_or l (i - (length l - k)) 0
-upper_at k i l g h b =
-    let j = i - (length l - k) in
-    let e : i ≡ length (drop k l) + j = omega (arith, length-drop k l) in
-    ap (λ x. get_or (drop k l ++ take k l) x 0) e ∙ get_or-append-add (drop k l) (take k l) j 0 ∙ get_or-take k l j 0 (omega arith)
 
 -- ---- words that the residue was reduced in: the basis and the core
 

@@ -32,10 +32,10 @@ fn put_plus(a: Action, k: usize, w: &mut [u64])
 {
     let n = symplectic::capped(a.n);
     let m = n + n;
-    let count = blocks::lesser(m, blocks::rows_in(w));
+    let count = m.min(blocks::rows_in(w));
     for i in 0..count {
         let j = rotated(i, k, m);
-        blocks::put(w, i, binar::sum(a.rows[j], binar::unit(j)));
+        blocks::put(w, i, a.rows[j] ^ Row::unit(j));
     }
 }
 
@@ -59,10 +59,10 @@ fn dots(v: Row, w: &[u64], k: usize) -> Row
     ensures { val result ≡ dots_of (take k (rows_in_lem w.now)) (val v) }
 {
     // the bounds of k once more, so that none is asked in the loop
-    let m = blocks::lesser(blocks::lesser(k, WIDTH), blocks::rows_in(w));
-    let mut s = binar::zero();
+    let m = k.min(WIDTH).min(blocks::rows_in(w));
+    let mut s = Row::zero();
     for i in 0..m {
-        s = binar::added(s, binar::unit(i), binar::dot(v, blocks::row(w, i)));
+        s = s.added(Row::unit(i), v.dot(blocks::row(w, i)));
     }
     s
 }
@@ -73,7 +73,7 @@ fn put_core(k: usize, rows: &[u64], transform: &[u64], out: &mut [u64])
     ensures { rows_in_lem out.new
         ≡ over (times_transposed (take k (rows_in_lem rows.now)) (take k (rows_in_lem transform.now))) (rows_in_lem out.old) }
 {
-    let m = blocks::lesser(k, blocks::rows_in(out));
+    let m = k.min(blocks::rows_in(out));
     for i in 0..m {
         blocks::put(out, i, dots(blocks::row(rows, i), transform, k));
     }

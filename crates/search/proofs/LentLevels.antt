@@ -1,17 +1,13 @@
 -- The levels of a search in lent rows: their room, what is put behind one, the rows as they come back, and the draws that are kept.
 -- Assumes nothing.
 use mathlib.Core.Path.{◌≡◌, refl, sym, ap, ap₂, ◌∙◌, subst}
-use mathlib.Core.Logic.{⊎_elim}
 use mathlib.Core.List.{List, [], ◌∷◌, ◌++◌}
-use Prim.Native.Nat.{ℕ, zero, suc, ◌+◌, ◌-◌, ◌/◌, ◌≤◌, ◌<◌}
-use native.Mathlib.Nat.{add-zero, zero-add, suc-add, eq-or-lt_of_le, le_refl}
+use Prim.Native.Nat.{ℕ, zero, suc, ◌+◌, ◌-◌, ◌≤◌, ◌<◌}
+use native.Mathlib.Nat.{add-zero, zero-add, suc-add, le_refl}
 use native.Mathlib.Omega.{arith}
 use lib.ListN.{length, get_or, set, take, drop, length-drop}
-use lib.Seq.{drop-drop, get_or-take, get_or-drop, get_or-set_same, get_or-set_other, take-take, length-take-le, ext_get_or, take-append-le, take-set-le, drop-set-lt, take-add, drop_at}
-use Rattle.binar.specs.Rows.{width}
+use lib.Seq.{drop-drop, get_or-take, get_or-drop, get_or-set_same, take-take, length-take-le, ext_get_or, take-append-le, take-set-le, drop-set-lt, take-add, drop_at}
 use Rattle.blocks.specs.Matrices.{times}
-use Rattle.blocks.specs.Words.{rows_in_lem}
-use Rattle.blocks.proofs.Values.{rows_count}
 use Rattle.search.specs.inner.Levels.{levels, found_in}
 
 -- ---- room
@@ -38,7 +34,7 @@ levels_more (suc k) d = subst (λ n. levels d ≤ levels n) (sym (suc-add k d)) 
     le_of : levels d ≤ levels (k + d) → levels d ≤ levels (suc (k + d))
     le_of h = omega arith
 
-levels_mono : (d e : ℕ) → d ≤ e → levels d ≤ levels e
+pub levels_mono : (d e : ℕ) → d ≤ e → levels d ≤ levels e
 levels_mono d e h = let s : e - d + d ≡ e = omega arith in subst (λ n. levels d ≤ levels n) s (levels_more (e - d) d)
 
 pub levels_8 : levels 8 ≡ 72
@@ -57,10 +53,6 @@ pub levels_64 : levels 64 ≡ 4160
 unfolding levels
 levels_64 = refl
 
--- as many words as the levels from dimension k down have rows
-pub levels_fit : (d k : ℕ) (ws : List ℕ) → d ≤ k → length ws ≡ levels k → levels d ≤ length (rows_in_lem ws)
-levels_fit d k ws h e = omega (arith, levels_mono d k h, rows_count (width / 2) ws)
-
 -- ---- rows of which the front stays
 
 pub front_get : (n : ℕ) (a b : List ℕ) → take n a ≡ take n b → (i : ℕ) → i < n → get_or a i 0 ≡ get_or b i 0
@@ -76,24 +68,6 @@ behind_front n m a b h k e =
     ∙ drop_at (take n b) (take m (drop n b)) n (length-take-le n b k)
 
 -- a read of one of the first d
-pub front_row : (d n : ℕ) (a b : List ℕ) → take n a ≡ take n b → d ≤ n → (i : ℕ) → i < d → get_or a i 0 ≡ get_or (take d b) i 0
-front_row d n a b e h i l = front_get n a b e i (omega arith) ∙ sym (get_or-take d b i 0 l)
-
--- ---- one row more behind the front, each as its place says
-
-pub put_next : (at : ℕ) (P : ℕ → ℕ) (w : List ℕ) (i v : ℕ) → at + i < length w → ((n : ℕ) → n < i → get_or w (at + n) 0 ≡ P n) → v ≡ P i
-    → (n : ℕ) → n < i + 1 → get_or (set w (at + i) v) (at + n) 0 ≡ P n
-put_next at P w i v inside before is n h = ⊎_elim here there (eq-or-lt_of_le (le_of n h))
-  where
-    le_of : (n : ℕ) → n < i + 1 → n ≤ i
-    le_of n h = omega arith
-
-    here : n ≡ i → get_or (set w (at + i) v) (at + n) 0 ≡ P n
-    here q = ap (λ k. get_or (set w (at + i) v) (at + k) 0) q ∙ get_or-set_same w (at + i) v 0 inside ∙ is ∙ ap P (sym q)
-
-    there : n < i → get_or (set w (at + i) v) (at + n) 0 ≡ P n
-    there l = get_or-set_other w (at + i) (at + n) v 0 (λ q. omega arith) ∙ before n l
-
 -- the rows from n on, each given by its place
 pub level_rows : (k n : ℕ) (w L : List ℕ) → n + k ≤ length w → length L ≡ k → ((i : ℕ) → i < k → get_or w (n + i) 0 ≡ get_or L i 0) → take k (drop n w) ≡ L
 level_rows k n w L long size rows = ext_get_or 0 (take k (drop n w)) L (count ∙ sym size) (λ i l. let g : i < k = omega (arith, count) in get_or-take k (drop n w) i 0 g ∙ get_or-drop n w i 0 ∙ rows i g)

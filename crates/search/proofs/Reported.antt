@@ -1,7 +1,8 @@
 -- What the functions of a search tell, from what is known of a search with a memory cut at a budget.
 -- Assumes nothing.
 use mathlib.Core.Path.{◌≡◌, refl, sym, ap, ◌∙◌, subst}
-use mathlib.Core.Bool.{Bool, true, false}
+use mathlib.Core.Bool.{Bool, true, false, true≢false, false≢true}
+use denote.Enum.Bare.{sameb}
 use mathlib.Core.Logic.{◌⊎◌, inl, inr, ⊎_elim}
 use mathlib.Core.List.{List, [], ◌++◌}
 use Prim.Native.Nat.{ℕ, ◌+◌, ◌-◌, ◌^◌, ◌≤◌, ◌<◌}
@@ -10,6 +11,7 @@ use native.Mathlib.Omega.{arith}
 use lib.ListN.{length, take, drop}
 use lib.Seq.{drop-drop}
 use Rattle.binar.specs.Rows.{width}
+use Rattle.triangular.specs.contracts.Ending.{the_type}
 use Rattle.triangular.specs.declared.Ending.{Ending}
 use Rattle.triangular.specs.declared.Ending.TheVariants.{Found, Failed, Spent}
 use Rattle.triangular.specs.Spaces.{is_alternating_lem}
@@ -32,6 +34,27 @@ found_not_failed e = let z : ◌≡◌ {A = ℕ} 0 1 = ap tag e in absurd (omega
     tag Found = 0
     tag Failed = 1
     tag Spent = 2
+
+-- what the code's tests say of an ending
+pub is_failed : (v : Ending) → sameb the_type v Failed ≡ true → v ≡ Failed
+is_failed Found e = absurd (false≢true e)
+is_failed Failed e = refl
+is_failed Spent e = absurd (false≢true e)
+
+pub not_failed : (v : Ending) → sameb the_type v Failed ≡ false → (v ≡ Found) ⊎ (v ≡ Spent)
+not_failed Found e = inl refl
+not_failed Failed e = absurd (true≢false e)
+not_failed Spent e = inr refl
+
+pub is_found : (v : Ending) → sameb the_type v Found ≡ true → v ≡ Found
+is_found Found e = refl
+is_found Failed e = absurd (false≢true e)
+is_found Spent e = absurd (false≢true e)
+
+pub not_found : (v : Ending) → sameb the_type v Found ≡ false → (v ≡ Failed) ⊎ (v ≡ Spent)
+not_found Found e = absurd (true≢false e)
+not_found Failed e = inl refl
+not_found Spent e = inr refl
 
 -- ---- the words of a memory
 

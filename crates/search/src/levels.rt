@@ -24,7 +24,7 @@ pub(crate) fn collected(basis: &[u64], k: usize, list: &mut [u64])
     requires { (k ≤ width) × (levels k ≤ length (rows_in_lem basis.now)) }
     ensures { rows_in_lem list.new ≡ over (found_in k (rows_in_lem basis.now)) (rows_in_lem list.old) }
 {
-    let n = blocks::lesser(k, blocks::rows_in(&list[..]));
+    let n = k.min(blocks::rows_in(&list[..]));
     let mut at: usize = 0;
     for i in 0..n {
         let d = k - i;
@@ -39,7 +39,7 @@ pub(crate) fn begin(basis: &mut [u64], gram: &mut [u64], core: &[u64], k: usize)
     ensures { (take k (rows_in_lem basis.new) ≡ units k) × (gram_of (core_in core.now) (units k) ≡ take k (rows_in_lem gram.new)) }
 {
     for i in 0..k {
-        blocks::put(basis, i, binar::unit(i));
-        blocks::put(gram, i, binar::low(blocks::row(core, i), k));
+        blocks::put(basis, i, Row::unit(i));
+        blocks::put(gram, i, blocks::row(core, i).low(k));
     }
 }

@@ -8,7 +8,7 @@
 
 mod levels; // levels.rt: the first space, and the draws that are kept
 mod remembers; // remembers.rt: a space looked up and entered, by its reduced basis
-mod words; // words.rt: words for a search, of four sizes
+mod words; // words.rt: a search in words of its own
 
 ghost use Rattle.std.specs.Prelude.{◌≡◌, true, List, [], ℕ, ◌+◌, ◌-◌, ◌^◌, ◌≤◌, ◌<◌, length, take, drop};
 ghost use Rattle.binar.specs.Bits.{dot};
@@ -30,14 +30,14 @@ use memory::ENTRY;
 use triangular::Ending;
 
 // How a search ended, and how many draws have been taken by then.
-#[derive(Clone, Copy)]
+#[derive(Clone, Copy, Debug, PartialEq, Eq)]
 pub struct Ended {
     pub ending: Ending,
     pub looks: u64,
 }
 
 // The same, and how many words of the memory are in use.
-#[derive(Clone, Copy)]
+#[derive(Clone, Copy, Debug, PartialEq, Eq)]
 struct Step {
     ending: Ending,
     looks: u64,
@@ -45,7 +45,7 @@ struct Step {
 }
 
 // What is known of a space before its first draw.
-#[derive(Clone, Copy)]
+#[derive(Clone, Copy, Debug, PartialEq, Eq)]
 enum Asked {
     Held,
     Alternating,
@@ -76,11 +76,11 @@ fn try_draw(
     if d == 1 {
         return Step {
             ending: Ending::Found,
-            looks: looks,
-            used: used,
+            looks,
+            used,
         };
     }
-    let j = binar::lowest(g);
+    let j = g.lowest();
     spaces::pass_gram(gram, d, g, j);
     let s = blocks::start(&gram[..], d + d);
     let b = blocks::start(&basis[..], d + d);
@@ -99,8 +99,8 @@ fn try_draw(
     if spaces::is_alternating(&gram[s..], d - 1) {
         return Step {
             ending: Ending::Failed,
-            looks: looks,
-            used: used,
+            looks,
+            used,
         };
     }
     spaces::pass_members(basis, d, g, j);
@@ -132,33 +132,30 @@ fn try_space(
         → Reports budget (search_with (form E) width (room_in memory.old) d (take d (rows_in_lem basis.old)) looks M)
         result.ending result.looks (found_in d (rows_in_lem basis.new)) memory.new result.used) }
 {
-    let asked = remembers::ask(basis, gram, &memory[..], d, used);
-    match asked {
+    match remembers::ask(basis, gram, &memory[..], d, used) {
         Asked::Held => {
             return Step {
                 ending: Ending::Failed,
-                looks: looks,
-                used: used,
+                looks,
+                used,
             };
         }
         Asked::Alternating => {
             return Step {
                 ending: Ending::Failed,
-                looks: looks,
+                looks,
                 used: remembers::note(memory, used, &basis[..], d),
             };
         }
         Asked::Open => {}
     }
     let o = try_draws(basis, gram, memory, d, used, looks, budget);
-    let e = o.ending;
-    match e {
-        Ending::Failed => Step {
-            ending: Ending::Failed,
-            looks: o.looks,
-            used: remembers::note(memory, o.used, &basis[..], d),
-        },
-        _ => o,
+    if o.ending != Ending::Failed {
+        return o;
+    }
+    Step {
+        used: remembers::note(memory, o.used, &basis[..], d),
+        ..o
     }
 }
 
@@ -181,13 +178,13 @@ fn try_draws(
         result.ending result.looks (found_in d (rows_in_lem basis.new)) memory.new result.used) }
 {
     spaces::sums(gram, d);
-    let last = binar::low_ones(d);
-    let mut c = binar::zero();
+    let last = Row::low_ones(d);
+    let mut c = Row::zero();
     let mut g = c;
     let mut spent = looks;
     let mut kept = used;
-    while binar::less(c, last) {
-        c = binar::next(c);
+    while c < last {
+        c = c.next();
         if spent == budget {
             return Step {
                 ending: Ending::Spent,
@@ -196,11 +193,10 @@ fn try_draws(
             };
         }
         spent += 1;
-        g = binar::sum(g, blocks::row(gram, d + binar::lowest(c)));
-        if binar::dot(c, g) {
+        g ^= blocks::row(gram, d + c.lowest());
+        if c.dot(g) {
             let o = try_draw(basis, gram, memory, d, g, kept, spent, budget);
-            let e = o.ending;
-            match e {
+            match o.ending {
                 Ending::Failed => {
                     spent = o.looks;
                     kept = o.used;
@@ -266,28 +262,12 @@ fn searched(
         };
     }
     let o = try_all(basis, gram, memory, k, budget);
-    let looks = o.looks;
-    let e = o.ending;
-    match e {
-        Ending::Found => {
-            levels::collected(&basis[..], k, list);
-            return Ended {
-                ending: Ending::Found,
-                looks: looks,
-            };
-        }
-        Ending::Failed => {
-            return Ended {
-                ending: Ending::Failed,
-                looks: looks,
-            };
-        }
-        Ending::Spent => {
-            return Ended {
-                ending: Ending::Spent,
-                looks: looks,
-            };
-        }
+    if o.ending == Ending::Found {
+        levels::collected(&basis[..], k, list);
+    }
+    Ended {
+        ending: o.ending,
+        looks: o.looks,
     }
 }
 
@@ -303,9 +283,15 @@ pub fn congruence_triangularize(
     ensures left { rows_in_lem list.new ≡ over (basis_found (budgeted budget (searched_core (core_in core.now) (room_in memory.old)).outcome)) (rows_in_lem list.old) }
     ensures remembered { memory.new ≡ over (memory_words (known_within budget (searched_core (core_in core.now) (room_in memory.old)).memory)) memory.old }
 {
-    let k = blocks::lesser(WIDTH, blocks::rows_in(core));
-    if k <= 32 {
-        return words::searched_small(core, k, budget, memory, list);
+    let k = WIDTH.min(blocks::rows_in(core));
+    if k <= 8 {
+        return words::searched_in::<72>(core, k, budget, memory, list);
     }
-    words::searched_large(core, k, budget, memory, list)
+    if k <= 16 {
+        return words::searched_in::<272>(core, k, budget, memory, list);
+    }
+    if k <= 32 {
+        return words::searched_in::<1056>(core, k, budget, memory, list);
+    }
+    words::searched_in::<4160>(core, k, budget, memory, list)
 }

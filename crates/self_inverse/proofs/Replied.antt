@@ -12,6 +12,13 @@ use Rattle.blocks.proofs.Values.{laid_front}
 use Rattle.symplectic.specs.Turns.{product}
 use Rattle.questions.specs.declared.Figures.{Figures}
 use Rattle.questions.specs.Replies.{Reply, nothing_listed_lem, listed, ask, unless_refused, action_questions_lem, list_questions, Replays, Shortest}
+use Rattle.std.specs.Prelude.{Err}
+use Rattle.questions.specs.declared.ActionError.{ActionError}
+use Rattle.questions.specs.declared.ListingError.TheVariants.{Action}
+use Rattle.questions.specs.Answers.{action_number}
+use Rattle.questions.proofs.Listings.{refused_number}
+use Rattle.self_inverse.specs.declared.SelfInverseError.TheVariants.{Listing}
+use Rattle.self_inverse.specs.Answers.{figures_of_lem}
 use Rattle.questions.proofs.Questions.{passed_size, then_passed, then_refused, list_passed, list_short, list_refused, list_small, reply_passed, reply_refused}
 use Rattle.questions.proofs.Answered.{rows_wide}
 use Rattle.self_inverse.specs.SelfInverse.{is_self_inverse, self_inverse_questions, self_inverse_reply}
@@ -76,8 +83,10 @@ module _ (n : ℕ) (rows out : List ℕ) where
       )
 
   -- by the first question of the action that is answered no
-  pub met_early : (k : ℕ) → action_questions_lem n F ≡ suc k → Met out (nothing_listed_lem (suc k))
-  met_early k e = refused_met k (early_questions k (list_refused n F (n + n + 1) (length out) k e))
+  pub met_early : (e : ActionError) → action_number e ≡ action_questions_lem n F → Met out (figures_of_lem (Err (Listing (Action e))))
+  met_early e a =
+      let k = refused_number e in
+      subst (Met out) (ap nothing_listed_lem (sym k.1)) (refused_met k.0 (early_questions k.0 (list_refused n F (n + n + 1) (length out) k.0 (sym a ∙ k.1))))
 
   module _ (passed : action_questions_lem n F ≡ 0) where
     -- by the fifth

@@ -15,7 +15,8 @@ use Rattle.blocks.proofs.Products.{times_sum, matmul_is}
 use Rattle.blocks.proofs.Units.{units_lt}
 use Rattle.linear.proofs.Instances.{𝕎}
 use Rattle.linear.proofs.Sums.{eq_of_sum, self_left}
-use Rattle.symplectic.specs.Turns.{all_of, identity_plus}
+use Rattle.symplectic.specs.Turns.{identity_plus}
+use Rattle.std.specs.List.{list_all}
 use Rattle.symplectic.specs.Matches.{same_rows}
 use Rattle.symplectic.proofs.Lists.{map_eq, eq_map, all_true, true_all}
 use Rattle.symplectic.proofs.Matches.{rows_equal, rows_same}
@@ -53,16 +54,16 @@ module _ (n : ℕ) (F : List ℕ) where
     abbrev Returns : ℕ → Type 0
     Returns u = times (times u F) F ≡ u
 
-    tests_is : all_of test P ≡ all_of test (map (added n F) (units (n + n)))
-    tests_is = ap (all_of test) (identity_plus_is n F size)
+    tests_is : list_all test P ≡ list_all test (map (added n F) (units (n + n)))
+    tests_is = ap (list_all test) (identity_plus_is n F size)
 
-    to_returns : all_of test P ≡ true → All Returns (units (n + n))
+    to_returns : list_all test P ≡ true → All Returns (units (n + n))
     to_returns e =
         All-map₂ (λ u l t. sym (eq_of_sum 𝕎 u (times (times u F) F) (sym (twice_added u l) ∙ sym (plus_times n F size (added n F u)) ∙ eqb-true (times (added n F u) P) 0 t)))
         (units (n + n)) (units_lt (n + n))
         (All-of_map (added n F) (λ v. test v ≡ true) (units (n + n)) (all_true test (map (added n F) (units (n + n))) (sym tests_is ∙ e)))
 
-    of_returns : All Returns (units (n + n)) → all_of test P ≡ true
+    of_returns : All Returns (units (n + n)) → list_all test P ≡ true
     of_returns h =
         tests_is
         ∙ true_all test (map (added n F) (units (n + n))) (All-to_map (added n F) (λ v. test v ≡ true) (units (n + n))
@@ -81,6 +82,6 @@ module _ (n : ℕ) (F : List ℕ) where
     returns_of : matmul F F ≡ units (n + n) → All Returns (units (n + n))
     returns_of e = eq_map (λ u. times (times u F) F) (λ u. u) (units (n + n)) (sym squared ∙ e ∙ sym (same (units (n + n))))
 
-    pub squares_to_zero : all_of test P ≡ is_self_inverse n F
+    pub squares_to_zero : list_all test P ≡ is_self_inverse n F
     squares_to_zero =
-        both_ways (all_of test P) (is_self_inverse n F) (λ e. is_self_inverse_lem (identity_of (to_returns e))) (λ e. of_returns (returns_of (self_inverse_is e)))
+        both_ways (list_all test P) (is_self_inverse n F) (λ e. is_self_inverse_lem (identity_of (to_returns e))) (λ e. of_returns (returns_of (self_inverse_is e)))

@@ -1,45 +1,28 @@
--- What the questions of a sheet answer: each part of them in its turn, and what is known of a sheet that passed; then which sheet is in force.
+-- What is known of a sheet that passed its questions.
 -- Assumes nothing.
 use mathlib.Core.Path.{◌≡◌, refl, sym, ap, ◌∙◌}
 use mathlib.Core.Bool.{Bool, true, false, ◌&&◌, ◌||◌, not, and-eq-true_iff}
 use mathlib.Core.List.{List, []}
-use Prim.Native.Nat.{ℕ, zero, suc, ◌+◌, ◌*◌, ◌≤◌, ◌<◌}
+use Prim.Native.Nat.{ℕ, ◌+◌, ◌*◌, ◌≤◌, ◌<◌}
 use native.Mathlib.Omega.{arith}
 use lib.Dec.{eqb, leb, ltb}
 use lib.ListN.{length, get_or}
-use borrow.Author.Tests.{leb-true, lt-ltb, le-ltb, le-leb, lt-leb, eq-eqb, ne_eqb}
+use borrow.Author.Tests.{leb-true}
 use Rattle.binar.specs.Bits.{digit, bit}
 use Rattle.blocks.specs.Matrices.{All}
 use Rattle.blocks.proofs.All.{All-at, All-map, All-get_or}
-use Rattle.symplectic.specs.Turns.{all_of}
+use Rattle.std.specs.List.{list_all}
 use Rattle.symplectic.proofs.Lists.{all_true}
 use Rattle.questions.specs.Replies.{ask}
 use Rattle.questions.proofs.Questions.{ask_passed}
 use Rattle.sheets.specs.declared.SheetLine.{SheetLine}
-use Rattle.sheets.specs.Sheets.{Gate, most_gates, most_turns, line_size, gate_count_lem, line, lines, gates_of, line_fits_lem, well_formed_lem, turn_fits_lem, gate_fits_lem, sheet_questions_lem, in_force}
+use Rattle.sheets.specs.Sheets.{Gate, most_gates, most_turns, line_size, gate_count_lem, line, lines, gates_of, line_fits_lem, well_formed_lem, turn_fits_lem, gate_fits_lem, sheet_questions_lem}
 use Rattle.sheets.specs.inner.Seconds.{Second}
 use Rattle.sheets.proofs.Lines.{lines_length, line_in}
 
 -- ---- a line
 
 module _ (sheet : List ℕ) (l : SheetLine) where
-  pub line_no_qubits : l.qubits ≡ 0 → false ≡ line_fits_lem sheet l
-  unfolding line_fits_lem
-  line_no_qubits h = sym (simp (le-ltb 0 l.qubits (omega arith)))
-
-  pub line_three_qubits : 2 < l.qubits → false ≡ line_fits_lem sheet l
-  unfolding line_fits_lem
-  line_three_qubits h = sym (simp (lt-ltb 0 l.qubits (omega arith), lt-leb l.qubits 2 h))
-
-  module _ (some : l.qubits ≡ 0 → ⊥) (few : l.qubits ≤ 2) where
-    pub line_many_turns : most_turns < l.count → false ≡ line_fits_lem sheet l
-    unfolding line_fits_lem
-    line_many_turns h = sym (simp (lt-ltb 0 l.qubits (omega (arith, some)), le-leb l.qubits 2 few, lt-leb l.count most_turns h))
-
-    pub line_ends : l.count ≤ most_turns → leb (l.offset + l.count) (length sheet) ≡ line_fits_lem sheet l
-    unfolding line_fits_lem
-    line_ends h = sym (simp (lt-ltb 0 l.qubits (omega (arith, some)), le-leb l.qubits 2 few, le-leb l.count most_turns h))
-
   -- the turns of one that fits stand within the sheet
   pub line_known : line_fits_lem sheet l ≡ true → l.offset + l.count ≤ length sheet
   unfolding line_fits_lem
@@ -50,50 +33,15 @@ module _ (sheet : List ℕ) (l : SheetLine) where
 -- ---- the form of a sheet
 
 module _ (sheet : List ℕ) where
-  pub form_none : gate_count_lem sheet ≡ 0 → false ≡ well_formed_lem sheet
-  unfolding well_formed_lem
-  form_none h = sym (simp (le-ltb 0 (gate_count_lem sheet) (omega arith)))
-
-  pub form_many : most_gates < gate_count_lem sheet → false ≡ well_formed_lem sheet
-  unfolding well_formed_lem
-  form_many h = sym (simp (lt-ltb 0 (gate_count_lem sheet) (omega arith), lt-leb (gate_count_lem sheet) most_gates h))
-
-  module _ (some : gate_count_lem sheet ≡ 0 → ⊥) (few : gate_count_lem sheet ≤ most_gates) where
-    pub form_cut : length sheet < 1 + line_size * gate_count_lem sheet → false ≡ well_formed_lem sheet
-    unfolding well_formed_lem
-    form_cut h = sym (simp (lt-ltb 0 (gate_count_lem sheet) (omega (arith, some)), le-leb (gate_count_lem sheet) most_gates few, lt-leb (1 + line_size * gate_count_lem sheet) (length sheet) h))
-
-    pub form_lines : 1 + line_size * gate_count_lem sheet ≤ length sheet → all_of (line_fits_lem sheet) (lines sheet) ≡ well_formed_lem sheet
-    unfolding well_formed_lem
-    form_lines h = sym (simp (lt-ltb 0 (gate_count_lem sheet) (omega (arith, some)), le-leb (gate_count_lem sheet) most_gates few, le-leb (1 + line_size * gate_count_lem sheet) (length sheet) h))
-
   pub form_known : well_formed_lem sheet ≡ true → (g : ℕ) → g < gate_count_lem sheet → line_fits_lem sheet (line sheet g) ≡ true
   unfolding well_formed_lem
   form_known e g h =
-      let behind = ((and-eq-true_iff (ltb 0 (gate_count_lem sheet) && leb (gate_count_lem sheet) most_gates) (leb (1 + line_size * gate_count_lem sheet) (length sheet) && all_of (line_fits_lem sheet) (lines sheet))).0 e).1 in
-      let each = all_true (line_fits_lem sheet) (lines sheet) ((and-eq-true_iff (leb (1 + line_size * gate_count_lem sheet) (length sheet)) (all_of (line_fits_lem sheet) (lines sheet))).0 behind).1 in
+      let behind = ((and-eq-true_iff (ltb 0 (gate_count_lem sheet) && leb (gate_count_lem sheet) most_gates) (leb (1 + line_size * gate_count_lem sheet) (length sheet) && list_all (line_fits_lem sheet) (lines sheet))).0 e).1 in
+      let each = all_true (line_fits_lem sheet) (lines sheet) ((and-eq-true_iff (leb (1 + line_size * gate_count_lem sheet) (length sheet)) (list_all (line_fits_lem sheet) (lines sheet))).0 behind).1 in
       ap (line_fits_lem sheet) (sym (line_in sheet (line sheet g) g h))
       ∙ All-at (λ l. line_fits_lem sheet l ≡ true) (lines sheet) each g (line sheet g) (omega (arith, lines_length sheet))
 
 -- ---- a turn
-
-module _ (qubits code : ℕ) where
-  pub turn_zero : code ≡ 0 → false ≡ turn_fits_lem qubits code
-  unfolding turn_fits_lem
-  turn_zero h = sym (simp (le-ltb 0 code (omega arith)))
-
-  pub turn_high : 15 < code → false ≡ turn_fits_lem qubits code
-  unfolding turn_fits_lem
-  turn_high h = sym (simp (lt-ltb 0 code (omega arith), lt-leb code 15 h))
-
-  module _ (some : code ≡ 0 → ⊥) (low : code ≤ 15) where
-    pub turn_of_two : qubits ≡ 2 → true ≡ turn_fits_lem qubits code
-    unfolding turn_fits_lem
-    turn_of_two h = sym (simp (lt-ltb 0 code (omega (arith, some)), le-leb code 15 low, eq-eqb qubits 2 h))
-
-    pub turn_of_one : (qubits ≡ 2 → ⊥) → not (bit 1 code || bit 3 code) ≡ turn_fits_lem qubits code
-    unfolding turn_fits_lem
-    turn_of_one h = sym (simp (lt-ltb 0 code (omega (arith, some)), le-leb code 15 low, ne_eqb qubits 2 h))
 
 -- only the turns of a gate of two qubits have one
 turn_second : (P : Type 0) (qubits code : ℕ) → turn_fits_lem qubits code ≡ true → (eqb qubits 2 ≡ true → P) → Second P code
@@ -116,7 +64,7 @@ unfolding gate_fits_lem
 no_turns qubits = refl
 
 -- of gates that fit, gate g, or none past the end
-pub gate_second : (P : Type 0) (gates : List Gate) (none : Gate) → gate_fits_lem none ≡ true → all_of gate_fits_lem gates ≡ true → (g : ℕ) → (eqb (get_or gates g none).qubits 2 ≡ true → P) → All (Second P) (get_or gates g none).turns
+pub gate_second : (P : Type 0) (gates : List Gate) (none : Gate) → gate_fits_lem none ≡ true → list_all gate_fits_lem gates ≡ true → (g : ℕ) → (eqb (get_or gates g none).qubits 2 ≡ true → P) → All (Second P) (get_or gates g none).turns
 unfolding gate_fits_lem
 gate_second P gates none n e g h =
     let gate = get_or gates g none in
@@ -126,34 +74,8 @@ gate_second P gates none n e g h =
 -- ---- the questions
 
 module _ (sheet : List ℕ) where
-  pub sheet_malformed : well_formed_lem sheet ≡ false → sheet_questions_lem sheet ≡ 15
-  unfolding sheet_questions_lem
-  sheet_malformed e = simp e
-
-  module _ (formed : well_formed_lem sheet ≡ true) where
-    pub sheet_bad_turn : all_of gate_fits_lem (gates_of sheet) ≡ false → sheet_questions_lem sheet ≡ 16
-    unfolding sheet_questions_lem
-    sheet_bad_turn e = simp (formed, e)
-
-    pub sheet_passed : all_of gate_fits_lem (gates_of sheet) ≡ true → sheet_questions_lem sheet ≡ 0
-    unfolding sheet_questions_lem
-    sheet_passed e = simp (formed, e)
-
-  pub sheet_known : sheet_questions_lem sheet ≡ 0 → (well_formed_lem sheet ≡ true) × (all_of gate_fits_lem (gates_of sheet) ≡ true)
+  pub sheet_known : sheet_questions_lem sheet ≡ 0 → (well_formed_lem sheet ≡ true) × (list_all gate_fits_lem (gates_of sheet) ≡ true)
   unfolding sheet_questions_lem
   sheet_known e =
-      let k = ask_passed (well_formed_lem sheet) 14 (ask (all_of gate_fits_lem (gates_of sheet)) 16 0) e in
-      (k.0, (ask_passed (all_of gate_fits_lem (gates_of sheet)) 15 0 k.1).0)
-
--- ---- the sheet in force
-
-module _ {A : Type 0} (asked : ℕ) (lent former : A) where
-  pub lent_in_force : asked ≡ 0 → lent ≡ in_force asked lent former
-  lent_in_force e = sym (ap (λ (q : ℕ). in_force q lent former) e)
-
-  pub former_in_force : (asked ≡ 0 → ⊥) → former ≡ in_force asked lent former
-  former_in_force h = go asked h
-    where
-      go : (q : ℕ) → (q ≡ 0 → ⊥) → former ≡ in_force q lent former
-      go zero h = absurd (h refl)
-      go (suc k) h = refl
+      let k = ask_passed (well_formed_lem sheet) 14 (ask (list_all gate_fits_lem (gates_of sheet)) 16 0) e in
+      (k.0, (ask_passed (list_all gate_fits_lem (gates_of sheet)) 15 0 k.1).0)

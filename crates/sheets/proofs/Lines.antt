@@ -2,19 +2,15 @@
 -- Assumes nothing.
 use mathlib.Core.Path.{◌≡◌, refl, sym, ap, ◌∙◌}
 use mathlib.Core.List.{List, [], ◌∷◌, map}
-use Prim.Native.Nat.{ℕ, zero, suc, ◌+◌, ◌*◌, ◌<◌}
+use Prim.Native.Nat.{ℕ, zero, suc, ◌+◌, ◌-◌, ◌<◌}
 use native.Mathlib.Nat.{add-zero, add-suc, suc-add, zero-add, le_of_suc-le-suc, not-suc-le-zero}
 use native.Mathlib.Omega.{arith}
-use lib.ListN.{length, get_or, length-map, get_or-map}
-use Rattle.numbers.specs.Numbers.{part, number}
+use lib.ListN.{length, take, drop, get_or, length-map, get_or-map}
+use Rattle.std.specs.List.{list_all}
+use Rattle.numbers.proofs.Numbers.{part_cut}
+use Rattle.numbers.specs.Numbers.{part}
 use Rattle.sheets.specs.declared.SheetLine.{SheetLine}
-use Rattle.sheets.specs.Sheets.{Gate, line_size, gate_count_lem, line, lines_from, lines, gate_of, gates_of}
-
--- a line by its numbers
-pub line_read : (sheet : List ℕ) (g q c o : ℕ) → q ≡ number sheet (1 + line_size * g + 0) 1 → c ≡ number sheet (1 + line_size * g + 1) 1 → o ≡ number sheet (1 + line_size * g + 2) 2
-    → record { qubits = q; count = c; offset = o } ≡ line sheet g
-unfolding line
-line_read sheet g q c o eq ec eo = simp (eq, ec, eo, add-zero)
+use Rattle.sheets.specs.Sheets.{Gate, gate_count_lem, line, lines_from, lines, gate_of, gates_of, turn_fits_lem, gate_fits_lem}
 
 from_length : (sheet : List ℕ) (k g : ℕ) → length (lines_from sheet k g) ≡ k
 unfolding lines_from
@@ -61,3 +57,8 @@ module _ (sheet : List ℕ) where
     pub gate_turns : (gate_of sheet l).turns ≡ part sheet l.offset l.count
     unfolding gate_of
     gate_turns = refl
+
+    -- what is tested is that each turn fits
+    pub gate_fits_is : list_all (turn_fits_lem l.qubits) (take (l.offset + l.count - l.offset) (drop l.offset sheet)) ≡ gate_fits_lem (gate_of sheet l)
+    unfolding gate_fits_lem gate_of
+    gate_fits_is = ap (list_all (turn_fits_lem l.qubits)) (part_cut sheet l.offset l.count)

@@ -4,7 +4,7 @@
 use Rattle.std.specs.Prelude.{◌≡◌, Bool, ◌&&◌, ◌||◌, not, List, [], ◌∷◌, map, ℕ, zero, suc, ◌+◌, ◌*◌, eqb, leb, ltb, length}
 use Rattle.numbers.specs.Numbers.{part, number}
 use Rattle.binar.specs.Bits.{bit}
-use Rattle.symplectic.specs.Turns.{all_of}
+use Rattle.std.specs.List.{list_all}
 use Rattle.questions.specs.Replies.{ask}
 use Rattle.sheets.specs.declared.SheetLine.{SheetLine}
 
@@ -55,18 +55,18 @@ line_fits_lem sheet l = (ltb 0 l.qubits && leb l.qubits 2) && (leb l.count most_
 -- is the gate count in its range, is every line there, and does every line fit?
 unfoldable pub well_formed_lem : List ℕ → Bool
 well_formed_lem sheet =
-    (ltb 0 (gate_count_lem sheet) && leb (gate_count_lem sheet) most_gates) && (leb (1 + line_size * gate_count_lem sheet) (length sheet) && all_of (line_fits_lem sheet) (lines sheet))
+    (ltb 0 (gate_count_lem sheet) && leb (gate_count_lem sheet) most_gates) && (leb (1 + line_size * gate_count_lem sheet) (length sheet) && list_all (line_fits_lem sheet) (lines sheet))
 
 -- is a turn neither zero nor above 15, and without a part on the second qubit where the gate has one qubit?
 unfoldable pub turn_fits_lem : ℕ → ℕ → Bool
 turn_fits_lem qubits code = (ltb 0 code && leb code 15) && (eqb qubits 2 || not (bit 1 code || bit 3 code))
 
 unfoldable pub gate_fits_lem : Gate → Bool
-gate_fits_lem g = all_of (turn_fits_lem g.qubits) g.turns
+gate_fits_lem g = list_all (turn_fits_lem g.qubits) g.turns
 
 -- 15: is it well formed? Then 16: does every turn of every gate fit?
 unfoldable pub sheet_questions_lem : List ℕ → ℕ
-sheet_questions_lem sheet = ask (well_formed_lem sheet) 15 (ask (all_of gate_fits_lem (gates_of sheet)) 16 0)
+sheet_questions_lem sheet = ask (well_formed_lem sheet) 15 (ask (list_all gate_fits_lem (gates_of sheet)) 16 0)
 
 -- of a lent sheet and the one that was in force, the one in force from now on: the lent one if it passes. Open to users
 abbrev pub in_force : {A : Type 0} → ℕ → A → A → A

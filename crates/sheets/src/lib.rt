@@ -3,10 +3,13 @@
 #![tactic(auto)]
 
 ghost use Rattle.std.specs.Prelude.{◌≡◌, true, ◌+◌, ◌≤◌, length};
-ghost use Rattle.symplectic.specs.Turns.{all_of};
+ghost use Rattle.std.specs.List.{list_all};
 ghost use Rattle.sheets.specs.Sheets.{gate_count_lem, line, lines, gate_of, gates_of, line_fits_lem, well_formed_lem, turn_fits_lem, gate_fits_lem, sheet_questions_lem, in_force, StaysSound};
 ghost use Rattle.sheets.specs.Six.{six_gates_lem};
-ghost use Rattle.sheets.specs.Answers.{number_of};
+ghost use Rattle.sheets.specs.Answers.{sheet_number, number_of};
+
+use binar::Row;
+use questions::Refusal;
 
 // The most gates of a sheet, the most turns of a gate, and the bytes of a gate's line.
 const MOST_GATES: u8 = 64;
@@ -22,32 +25,33 @@ pub const SIX_GATES: [u8; 37] = [
 ];
 
 // The line of a gate: how many qubits it reads, how many turns it has, and the offset of these from the sheet's start.
-#[derive(Clone, Copy)]
+#[derive(Clone, Copy, Debug, PartialEq, Eq, Hash)]
 pub struct SheetLine {
     pub qubits: u8,
     pub count: u8,
     pub offset: u16,
 }
 
-// Which question of a sheet is answered no, if any.
-#[derive(Clone, Copy)]
-pub enum SheetAnswer {
-    Passed,
+// Which question of a sheet is answered no.
+#[derive(Clone, Copy, Debug, PartialEq, Eq, Hash)]
+pub enum SheetError {
     Malformed,
     BadTurn,
 }
 
-pub fn number_of(r: SheetAnswer) -> u64
-    ensures { result ≡ number_of r }
-{
-    match r {
-        SheetAnswer::Passed => 0,
-        SheetAnswer::Malformed => 15,
-        SheetAnswer::BadTurn => 16,
+impl Refusal for SheetError {
+    ghost number = { sheet_number };
+
+    fn number(self) -> u64 {
+        match self {
+            SheetError::Malformed => 15,
+            SheetError::BadTurn => 16,
+        }
     }
 }
 
 // Our six gates.
+#[tactic(auto, unfolding(crate::specs::Six::six_gates_lem))]
 pub fn six_gates() -> [u8; 37]
     ensures { result ≡ six_gates_lem }
 {
@@ -57,6 +61,7 @@ pub fn six_gates() -> [u8; 37]
 // ---- lines
 
 // How many gates a sheet has. An empty one, 0.
+#[tactic(auto, unfolding(crate::specs::Sheets::gate_count_lem))]
 pub fn gate_count(sheet: &[u8]) -> u8
     ensures { result ≡ gate_count_lem sheet.now }
 {
@@ -64,6 +69,7 @@ pub fn gate_count(sheet: &[u8]) -> u8
 }
 
 // The line of gate g. Past the end, all 0.
+#[tactic(auto, unfolding(crate::specs::Sheets::line))]
 pub fn line_at(sheet: &[u8], g: u8) -> SheetLine
     ensures { result ≡ line sheet.now g }
 {
@@ -81,25 +87,18 @@ pub fn line_at(sheet: &[u8], g: u8) -> SheetLine
 // ---- questions
 
 // Whether the counts of a line are in their ranges, and its turns within the sheet.
+#[tactic(auto, unfolding(crate::specs::Sheets::line_fits_lem))]
 fn line_fits(sheet: &[u8], l: SheetLine) -> bool
     ensures { result ≡ line_fits_lem sheet.now l }
 {
-    if l.qubits == 0 {
-        return false;
-    }
-    if 2 < l.qubits {
-        return false;
-    }
-    if MOST_TURNS < l.count {
-        return false;
-    }
-    let end = l.offset as u64 + l.count as u64;
-    end <= sheet.len() as u64
+    (1..=2).contains(&l.qubits)
+        && l.count <= MOST_TURNS
+        && l.offset as u64 + l.count as u64 <= sheet.len() as u64
 }
 
 // Whether every line fits.
 fn lines_fit(sheet: &[u8]) -> bool
-    ensures { result ≡ all_of (line_fits_lem sheet.now) (lines sheet.now) }
+    ensures { result ≡ list_all (line_fits_lem sheet.now) (lines sheet.now) }
 {
     let count = gate_count(sheet);
     for g in 0..count {
@@ -111,41 +110,30 @@ fn lines_fit(sheet: &[u8]) -> bool
 }
 
 // Question 15.
+#[tactic(auto, unfolding(crate::specs::Sheets::well_formed_lem))]
 fn well_formed(sheet: &[u8]) -> bool
     ensures { result ≡ well_formed_lem sheet.now }
 {
     let count = gate_count(sheet);
-    if count == 0 {
-        return false;
-    }
-    if MOST_GATES < count {
-        return false;
-    }
-    let end = 1 + LINE_SIZE * (count as u64);
-    if (sheet.len() as u64) < end {
-        return false;
-    }
-    lines_fit(sheet)
+    (1..=MOST_GATES).contains(&count)
+        && 1 + LINE_SIZE * (count as u64) <= sheet.len() as u64
+        && lines_fit(sheet)
 }
 
 // Whether a turn is a code of four bits, not zero, and has a part on the second qubit only where the gate reads two.
+#[tactic(auto, unfolding(crate::specs::Sheets::turn_fits_lem))]
 fn turn_fits(qubits: u8, code: u8) -> bool
     ensures { result ≡ turn_fits_lem qubits code }
 {
-    if code == 0 {
-        return false;
-    }
-    if 15 < code {
-        return false;
-    }
-    if qubits == 2 {
-        return true;
-    }
-    let turn = binar::of_word(code as u64);
-    if binar::bit(turn, 1) {
-        return false;
-    }
-    !binar::bit(turn, 3)
+    let turn = Row::from(code as u64);
+    (1..=15).contains(&code) && (qubits == 2 || !(turn.bit(1) || turn.bit(3)))
+}
+
+// Whether every turn fits a gate.
+fn turns_fit(qubits: u8, turns: &[u8]) -> bool
+    ensures { result ≡ list_all (turn_fits_lem qubits) turns.now }
+{
+    turns.iter().all(|code| turn_fits(qubits, *code))
 }
 
 // Whether every turn of a line fits.
@@ -154,19 +142,14 @@ fn gate_fits(sheet: &[u8], l: SheetLine) -> bool
     ensures { result ≡ gate_fits_lem (gate_of sheet.now l) }
 {
     let from = l.offset as usize;
-    let count = l.count as usize;
-    for j in 0..count {
-        if !turn_fits(l.qubits, sheet[from + j]) {
-            return false;
-        }
-    }
-    true
+    let to = from + l.count as usize;
+    turns_fit(l.qubits, &sheet[from..to])
 }
 
 // Question 16 of a sheet that is well formed.
 fn gates_fit(sheet: &[u8]) -> bool
     requires { well_formed_lem sheet.now ≡ true }
-    ensures { result ≡ all_of gate_fits_lem (gates_of sheet.now) }
+    ensures { result ≡ list_all gate_fits_lem (gates_of sheet.now) }
 {
     let count = gate_count(sheet);
     for g in 0..count {
@@ -178,32 +161,43 @@ fn gates_fit(sheet: &[u8]) -> bool
 }
 
 // Questions 15 and 16.
-pub fn sheet_questions(sheet: &[u8]) -> SheetAnswer
+#[tactic(auto, unfolding(crate::specs::Sheets::sheet_questions_lem))]
+pub fn sheet_questions(sheet: &[u8]) -> Result<(), SheetError>
     ensures { number_of result ≡ sheet_questions_lem sheet.now }
 {
     if !well_formed(sheet) {
-        return SheetAnswer::Malformed;
+        return Err(SheetError::Malformed);
     }
     if !gates_fit(sheet) {
-        return SheetAnswer::BadTurn;
+        return Err(SheetError::BadTurn);
     }
-    SheetAnswer::Passed
+    Ok(())
 }
 
 // ---- the sheet in force
 
-// The sheet in force from now on: the lent one itself if it passes, with 0 in the lent number; else the former one itself, with the
-// number of the refusal.
-pub fn load_sheet<'a, 'b>(lent: &'a [u8], former: &'a [u8], number: &'b mut u64) -> &'a [u8]
-    ensures part { result.now ≡ in_force (sheet_questions_lem lent.now) lent.now former.now }
-    ensures place { result.ref_ptr ≡ in_force (sheet_questions_lem lent.now) lent.entry.ref_ptr former.entry.ref_ptr }
-    ensures told { number.new ≡ sheet_questions_lem lent.now }
-    ensures sound { StaysSound former.now result.now }
+// The sheet in force, and what the questions of the lent one answered.
+#[derive(Clone, Copy, Debug, PartialEq, Eq, Hash)]
+pub struct Loaded<'a> {
+    pub in_force: &'a [u8],
+    pub asked: Result<(), SheetError>,
+}
+
+// The sheet in force from now on: the lent one itself if it passes, else the former one itself.
+pub fn load_sheet<'a>(lent: &'a [u8], former: &'a [u8]) -> Loaded<'a>
+    ensures part { result.in_force.now ≡ in_force (sheet_questions_lem lent.now) lent.now former.now }
+    ensures place { result.in_force.ref_ptr ≡ in_force (sheet_questions_lem lent.now) lent.entry.ref_ptr former.entry.ref_ptr }
+    ensures told { number_of result.asked ≡ sheet_questions_lem lent.now }
+    ensures sound { StaysSound former.now result.in_force.now }
 {
-    let asked = number_of(sheet_questions(lent));
-    *number = asked;
-    if asked == 0 {
-        return lent;
+    match sheet_questions(lent) {
+        Ok(()) => Loaded {
+            in_force: lent,
+            asked: Ok(()),
+        },
+        Err(e) => Loaded {
+            in_force: former,
+            asked: Err(e),
+        },
     }
-    former
 }

@@ -3,9 +3,15 @@
 use mathlib.Core.Path.{◌≡◌, refl, sym, ap, ap₂, ◌∙◌}
 use mathlib.Core.Bool.{Bool, true, false}
 use mathlib.Core.List.{List}
-use Prim.Native.Nat.{ℕ}
+use Prim.Native.Nat.{ℕ, suc}
 use lib.Dec.{ltb}
 use lib.ListN.{length}
+use Rattle.std.specs.Prelude.{Err}
+use Rattle.questions.specs.declared.ActionError.{ActionError}
+use Rattle.questions.specs.Answers.{action_number}
+use Rattle.questions.proofs.Listings.{refused_number}
+use Rattle.shorter.specs.declared.ShorterError.TheVariants.{Action}
+use Rattle.shorter.specs.Answers.{chosen_of}
 use Rattle.blocks.specs.Words.{rows_of_words}
 use Rattle.questions.specs.Replies.{action_questions_lem}
 use Rattle.symplectic.specs.Matches.{matches}
@@ -55,3 +61,9 @@ pub reply_asked : (n : ℕ) (rows first second : List ℕ) (k : ℕ) → action_
 unfolding shorter_reply
 reply_asked n rows first second k e =
     sym (ap (λ (q : ℕ). chosen_unless q (shorter_of_lem n (rows_of_words n rows) (rows_of_words n first) (rows_of_words n second))) e)
+
+-- by the first question of the action that is answered no
+pub reply_early : (n : ℕ) (rows first second : List ℕ) (e : ActionError) → action_number e ≡ action_questions_lem n (rows_of_words n rows)
+    → chosen_of (Err (Action e)) ≡ shorter_reply n rows first second
+reply_early n rows first second e a =
+    let k = refused_number e in ap nothing_chosen k.1 ∙ reply_asked n rows first second (suc k.0) (sym a ∙ k.1)

@@ -1,16 +1,24 @@
--- What the choice says: its number, and which list is played.
+-- What the choice says: its number, and which list is played. Open to users.
 -- Assumes nothing.
+use Rattle.std.specs.Prelude.{ℕ, Result, Ok, Err}
+use Rattle.questions.specs.Answers.{action_number}
 use Rattle.shorter.specs.declared.Chosen.{Chosen}
 use Rattle.shorter.specs.declared.Choice.{Choice}
-use Rattle.shorter.specs.declared.Choice.TheVariants.{First, Second, TooManyQubits, WrongRowCount, RowTooWide, NotSymplectic, NeitherMatches}
+use Rattle.shorter.specs.declared.Choice.TheVariants.{First, Second}
+use Rattle.shorter.specs.declared.ShorterError.{ShorterError}
+use Rattle.shorter.specs.declared.ShorterError.TheVariants.{Action, NeitherMatches}
 use Rattle.shorter.specs.Shorter.{chosen, nothing_chosen}
 
--- open to users
-abbrev pub chosen_of : Choice → Chosen
-chosen_of First = chosen 1
-chosen_of Second = chosen 2
-chosen_of TooManyQubits = nothing_chosen 1
-chosen_of WrongRowCount = nothing_chosen 2
-chosen_of RowTooWide = nothing_chosen 3
-chosen_of NotSymplectic = nothing_chosen 4
-chosen_of NeitherMatches = nothing_chosen 14
+abbrev pub shorter_number : ShorterError → ℕ
+shorter_number (Action e) = action_number e
+shorter_number NeitherMatches = 14
+
+abbrev pub chosen_of : Result Choice ShorterError → Chosen
+chosen_of (Ok First) = chosen 1
+chosen_of (Ok Second) = chosen 2
+chosen_of (Err e) = nothing_chosen (shorter_number e)
+
+-- 0 where a list is given, else the number of the refusal
+abbrev pub list_number : {A : Type 0} → Result A ShorterError → ℕ
+list_number (Ok list) = 0
+list_number (Err e) = shorter_number e

@@ -9,6 +9,7 @@ use native.Mathlib.Numerals.{add-one}
 use native.Mathlib.Omega.{arith}
 use lib.ListN.{length, get_or, set, take, length-append, length-map, get_or-append}
 use lib.Seq.{get_or-append-add, get_or-take, take_all}
+use Rattle.std.proofs.lemmas.List.{take-append-le}
 use Rattle.blocks.specs.Words.{over}
 use Rattle.blocks.proofs.Overs.{over_nil, over_no_room, over_put, over_at}
 use Rattle.blocks.proofs.Values.{map_get}
@@ -33,6 +34,14 @@ below_at (suc m) i h = ⊎_elim last (λ l. before l ∙ below_at m i l) (eq-or-
 
     before : i < m → get_or (below m ++ (m ∷ [])) i 0 ≡ get_or (below m) i 0
     before l = get_or-append (below m) (m ∷ []) 0 i (subst (λ n. i < n) (sym (below_length m)) l)
+
+pub below_front : (m d : ℕ) → m ≤ d → take m (below d) ≡ below m
+unfolding below
+below_front zero zero h = refl
+below_front (suc m) zero h = absurd (not-suc-le-zero h)
+below_front m (suc d) h =
+    ⊎_elim (λ e. take_all m (below (suc d)) (omega (arith, e, below_length (suc d))) ∙ ap below (sym e))
+    (λ l. take-append-le m (below d) (d ∷ []) (omega (arith, l, below_length d)) ∙ below_front m d (le_of_suc-le-suc l)) (eq-or-lt_of_le h)
 
 -- ---- one row more
 

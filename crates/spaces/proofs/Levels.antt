@@ -1,7 +1,7 @@
 -- What stands in lent rows once sums are put behind a level, or what a draw passes on, as far as there is room.
 -- Assumes nothing.
 use mathlib.Core.Path.{◌≡◌, sym, ap, ◌∙◌}
-use mathlib.Core.List.{List, map}
+use mathlib.Core.List.{List, [], map}
 use Prim.Native.Nat.{ℕ, suc, ◌+◌, ◌-◌, ◌^◌, ◌≤◌, ◌<◌}
 use native.Mathlib.Nat.{le_refl}
 use borrow.Author.Tests.{le-leb, lt-leb}
@@ -32,13 +32,9 @@ module _ (d : ℕ) (w : List ℕ) (over : width < d) where
   unfolding summed
   sums_none = sym (ap (λ n. summed n w) (counted_none d over) ∙ none_put (sum_to (take 0 w)) w)
 
-  pub members_none : (h j : ℕ) → w ≡ members_passed h j (counted d) w
-  unfolding members_passed
-  members_none h j = sym (ap (λ n. members_passed h j n w) (counted_none d over) ∙ none_put (passed_at h j (take 0 w)) w)
-
-  pub gram_none : (h j : ℕ) → w ≡ gram_passed h j (counted d) w
-  unfolding gram_passed
-  gram_none h j = sym (ap (λ n. gram_passed h j n w) (counted_none d over) ∙ none_put (gram_at h j (take 0 w)) w)
+  pub passed_none : (h j : ℕ) (f : ℕ → ℕ) → w ≡ over_from (counted d + counted d) (map (λ i. f (passed_at h j (take (counted d) w) i)) (below (counted d - 1))) w
+  passed_none h j f =
+      sym (ap (λ n. over_from (n + n) (map (λ i. f (passed_at h j (take n w) i)) (below (n - 1))) w) (counted_none d over) ∙ none_put (λ i. f (passed_at h j [] i)) w)
 
 module _ (d : ℕ) (w w' : List ℕ) (fits : d ≤ width) where
   -- ---- sums

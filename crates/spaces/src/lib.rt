@@ -2,34 +2,36 @@
 // In the source: transvection_exact.rs, `is_alternating`, `SpanVectors`, `right_orthogonal_complement`.
 #![tactic(auto)]
 
-ghost use Rattle.std.specs.Prelude.{◌≡◌, ◌&&◌, ltb};
+ghost use Rattle.std.specs.Prelude.{◌≡◌, ◌&&◌, true, false, ltb, ℕ, ◌+◌, ◌-◌, ◌<◌, map, take};
 ghost use Rattle.binar.specs.Bits.{select, ◌⊕◌};
 ghost use Rattle.binar.specs.Rows.{val};
 ghost use Rattle.blocks.specs.Words.{rows_in_lem};
-ghost use Rattle.triangular.specs.Spaces.{is_alternating_lem};
-ghost use Rattle.spaces.specs.Levels.{below, counted, form_in, summed, kept_or, shrunk as shrunk_of, members_passed, gram_passed};
+ghost use Rattle.triangular.specs.Spaces.{is_alternating_lem, symmetric_with};
+ghost use Rattle.spaces.specs.Levels.{below, over_from, counted, form_in, summed, kept_or, shrunk as shrunk_of, passed_at, members_passed, gram_passed};
 
 use binar::{Row, WIDTH};
+
+// Whether the form of member i of a Gram matrix is symmetric with each member before it, and 0 with itself.
+fn alternates(gram: &[u64], i: usize) -> bool
+    ensures passes { result ≡ true → (symmetric_with (form_in (rows_in_lem gram.now)) i (below i) ≡ true) × (form_in (rows_in_lem gram.now) i i ≡ false) }
+    ensures fails { result ≡ false → (d : ℕ) → i < d → is_alternating_lem (form_in (rows_in_lem gram.now)) (below d) ≡ false }
+{
+    let row = blocks::row(gram, i);
+    for j in 0..i {
+        if row.bit(j) != blocks::row(gram, j).bit(i) {
+            return false;
+        }
+    }
+    !row.bit(i)
+}
 
 // Whether a Gram matrix has d members and its form is alternating: each member is tested with those before it, then with itself.
 pub fn is_alternating(gram: &[u64], d: usize) -> bool
     ensures { result ≡ (is_alternating_lem (form_in (rows_in_lem gram.now)) (below d) && ltb 0 d) }
 {
-    let mut i: usize = 0;
-    let mut j: usize = 0;
-    while i < d {
-        let row = blocks::row(gram, i);
-        if j < i {
-            if binar::bit(row, j) != binar::bit(blocks::row(gram, j), i) {
-                return false;
-            }
-            j += 1;
-        } else {
-            if binar::bit(row, i) {
-                return false;
-            }
-            i += 1;
-            j = 0;
+    for member in 0..d {
+        if !alternates(gram, member) {
+            return false;
         }
     }
     0 < d
@@ -42,9 +44,9 @@ pub fn sums(w: &mut [u64], d: usize)
     if WIDTH < d {
         return;
     }
-    let mut s = binar::zero();
+    let mut s = Row::zero();
     for i in 0..d {
-        s = binar::sum(s, blocks::row(w, i));
+        s ^= blocks::row(w, i);
         blocks::put(w, d + i, s);
     }
 }
@@ -56,54 +58,52 @@ fn passed(x: Row, y: Row, m: Row, before: bool, hit: bool) -> Row
     if before {
         return x;
     }
-    binar::added(y, m, hit)
+    y.added(m, hit)
 }
 
 // A Gram row once member j has been added to those of h and dropped: so are the columns.
 fn shrunk(x: Row, h: Row, j: usize) -> Row
     ensures { val result ≡ shrunk_of j (val h) (val x) }
 {
-    let y = binar::added(x, h, binar::bit(x, j));
-    let low = binar::low(y, j);
-    binar::sum(low, binar::shift_down(binar::sum(y, low), 1))
+    let y = x.added(h, x.bit(j));
+    let low = y.low(j);
+    low ^ (y ^ low).shift_down(1)
 }
 
-// Of d members, j is dropped and added to each later one of h; what is passed on is put behind the level. At n, r is h from column n on.
+// Of d rows, j is dropped and added to each later one of h; what is passed on is put behind the level, each row as `made` makes it. At
+// n, r is h from column n on.
+fn pass<F: Fn(Row) -> Row>(w: &mut [u64], d: usize, h: Row, j: usize, made: F)
+    ghost f: { ℕ → ℕ }
+    requires called { F.IsAlwaysCallable made }
+    requires makes { (x : _) (y : _) → F.post made x y → val y ≡ f (val x) }
+    ensures { rows_in_lem w.new ≡ over_from (counted d + counted d) (map (λ i. f (passed_at (val h) j (take (counted d) (rows_in_lem w.old)) i)) (below (counted d - 1))) (rows_in_lem w.old) }
+{
+    if WIDTH < d {
+        return;
+    }
+    let m = blocks::row(w, j);
+    let mut x = blocks::row(w, 0);
+    let mut r = h;
+    for n in 1..d {
+        let i = n - 1;
+        r = r.shift_down(1);
+        let u = blocks::row(w, n);
+        let v = passed(x, u, m, i < j, r.bit(0));
+        blocks::put(w, d + d + i, made(v));
+        x = u;
+    }
+}
+
+// What a draw passes on of d members.
 pub fn pass_members(basis: &mut [u64], d: usize, h: Row, j: usize)
     ensures { rows_in_lem basis.new ≡ members_passed (val h) j (counted d) (rows_in_lem basis.old) }
 {
-    if WIDTH < d {
-        return;
-    }
-    let m = blocks::row(basis, j);
-    let mut x = blocks::row(basis, 0);
-    let mut r = h;
-    for n in 1..d {
-        let i = n - 1;
-        r = binar::shift_down(r, 1);
-        let u = blocks::row(basis, n);
-        let v = passed(x, u, m, i < j, binar::bit(r, 0));
-        blocks::put(basis, d + d + i, v);
-        x = u;
-    }
+    pass(basis, d, h, j, |v| v);
 }
 
-// The same of the Gram rows, and of their columns.
+// The same of their Gram rows, and of the columns of these.
 pub fn pass_gram(gram: &mut [u64], d: usize, h: Row, j: usize)
     ensures { rows_in_lem gram.new ≡ gram_passed (val h) j (counted d) (rows_in_lem gram.old) }
 {
-    if WIDTH < d {
-        return;
-    }
-    let m = blocks::row(gram, j);
-    let mut x = blocks::row(gram, 0);
-    let mut r = h;
-    for n in 1..d {
-        let i = n - 1;
-        r = binar::shift_down(r, 1);
-        let u = blocks::row(gram, n);
-        let y = passed(x, u, m, i < j, binar::bit(r, 0));
-        blocks::put(gram, d + d + i, shrunk(y, h, j));
-        x = u;
-    }
+    pass(gram, d, h, j, |v| shrunk(v, h, j));
 }

@@ -18,7 +18,8 @@ use Rattle.linear.proofs.Sums.{swap4, self_left, eq_of_sum}
 use Rattle.linear.proofs.Instances.{𝔹, 𝕎}
 use Rattle.linear.proofs.Maps.{same_of_beq}
 use Rattle.linear.proofs.Rows.{zero_by_units}
-use Rattle.symplectic.specs.Turns.{pairing, followed, product, all_of, pair_alike, symplectic, identity_plus}
+use Rattle.symplectic.specs.Turns.{pairing, followed, product, pair_alike, symplectic, identity_plus}
+use Rattle.std.specs.List.{list_all}
 use Rattle.symplectic.specs.inner.Vectors.{run}
 use Rattle.symplectic.proofs.Lists.{map_eq, eq_map, all_true, true_all, zip_map, zip_with_map}
 use Rattle.symplectic.proofs.Pairings.{𝕡, pairing_sum, pairing_comm, pairing_zero, pair_over}
@@ -137,7 +138,7 @@ module _ (n : ℕ) (F : List ℕ) (size : length F ≡ n + n) where
   checked symp =
       All-map (λ u e. All-map (λ v f. same_of_beq (pairing n (times u F) (times v F)) (pairing n u v) f) us
       (All-of_map at (λ b. pair_alike n (at u) b ≡ true) us (all_true (pair_alike n (at u)) (map at us) e))) us
-      (All-of_map at (λ a. all_of (pair_alike n a) (map at us) ≡ true) us (all_true (λ a. all_of (pair_alike n a) (map at us)) (map at us) (rw zipped at symp)))
+      (All-of_map at (λ a. list_all (pair_alike n a) (map at us) ≡ true) us (all_true (λ a. list_all (pair_alike n a) (map at us)) (map at us) (rw zipped at symp)))
     where
       us : List ℕ
       us = units (n + n)
@@ -148,8 +149,8 @@ module _ (n : ℕ) (F : List ℕ) (size : length F ≡ n + n) where
   pub symplectic_of : RowsPair n F → symplectic n F ≡ true
   unfolding symplectic pair_alike
   symplectic_of a =
-      ap (λ rows. all_of (λ p. all_of (pair_alike n p) rows) rows) zipped
-      ∙ true_all (λ p. all_of (pair_alike n p) (map at us)) (map at us) (All-to_map at (λ p. all_of (pair_alike n p) (map at us) ≡ true) us
+      ap (λ rows. list_all (λ p. list_all (pair_alike n p) rows) rows) zipped
+      ∙ true_all (λ p. list_all (pair_alike n p) (map at us)) (map at us) (All-to_map at (λ p. list_all (pair_alike n p) (map at us) ≡ true) us
       (All-map (λ u e. true_all (pair_alike n (at u)) (map at us) (All-to_map at (λ p. pair_alike n (at u) p ≡ true) us
       (All-map (λ v f. ap (λ b. beq b (pairing n u v)) f ∙ same (pairing n u v)) us e))) us a))
     where

@@ -5,7 +5,7 @@ use mathlib.Core.Bool.{Bool, true, ◌&&◌, and-eq-true_iff}
 use mathlib.Core.List.{List, [], ◌∷◌, map, zip, zip_with, tail, head_d}
 use Prim.Native.Nat.{ℕ, ◌<◌}
 use Rattle.blocks.specs.Matrices.{All}
-use Rattle.symplectic.specs.Turns.{all_of}
+use Rattle.std.specs.List.{list_all}
 
 pub map_eq : {A B : Type 0} (f g : A → B) (xs : List A) → All (λ x. f x ≡ g x) xs → map f xs ≡ map g xs
 map_eq f g [] a = refl
@@ -16,11 +16,11 @@ unfolding head_d
 eq_map f g [] e = tt
 eq_map f g (x ∷ xs) e = (ap (λ l. head_d l (f x)) e, eq_map f g xs (ap tail e))
 
-pub all_true : {A : Type 0} (f : A → Bool) (xs : List A) → all_of f xs ≡ true → All (λ x. f x ≡ true) xs
+pub all_true : {A : Type 0} (f : A → Bool) (xs : List A) → list_all f xs ≡ true → All (λ x. f x ≡ true) xs
 all_true f [] e = tt
-all_true f (x ∷ xs) e = let k = (and-eq-true_iff (f x) (all_of f xs)).0 e in (k.0, all_true f xs k.1)
+all_true f (x ∷ xs) e = let k = (and-eq-true_iff (f x) (list_all f xs)).0 e in (k.0, all_true f xs k.1)
 
-pub true_all : {A : Type 0} (f : A → Bool) (xs : List A) → All (λ x. f x ≡ true) xs → all_of f xs ≡ true
+pub true_all : {A : Type 0} (f : A → Bool) (xs : List A) → All (λ x. f x ≡ true) xs → list_all f xs ≡ true
 true_all f [] a = refl
 true_all f (x ∷ xs) a = ap₂ ◌&&◌ a.0 (true_all f xs a.1)
 

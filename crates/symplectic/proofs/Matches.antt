@@ -9,7 +9,8 @@ use lib.ListN.{length, get_or, drop, drop_of_length-le}
 use borrow.Author.Tests.{ltb-true, eqb-true, lt-ltb, eq-eqb}
 use Rattle.blocks.specs.Matrices.{All}
 use Rattle.blocks.proofs.All.{All-map}
-use Rattle.symplectic.specs.Turns.{all_of, product}
+use Rattle.symplectic.specs.Turns.{product}
+use Rattle.std.specs.List.{list_all}
 use Rattle.symplectic.specs.Matches.{fit_all, same_rows, matches}
 use Rattle.symplectic.proofs.Lists.{all_true, true_all}
 use Rattle.symplectic.proofs.FirstPicks.{drop_open}
@@ -17,7 +18,7 @@ use Rattle.symplectic.proofs.Tests.{onward, stopped}
 
 -- ---- vectors within their width
 
-pub fit_all_is : (m : ℕ) (rows : List ℕ) → fit_all m rows ≡ all_of (λ v. ltb v (2 ^ m)) rows
+pub fit_all_is : (m : ℕ) (rows : List ℕ) → fit_all m rows ≡ list_all (λ v. ltb v (2 ^ m)) rows
 unfolding fit_all
 fit_all_is m rows = refl
 

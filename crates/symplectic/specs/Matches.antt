@@ -1,11 +1,12 @@
 -- Whether vectors have columns below 2n only, and whether the turns of a list play an action.
 -- Assumes nothing.
 use Rattle.std.specs.Prelude.{Bool, true, false, ◌&&◌, List, [], ◌∷◌, ℕ, ◌+◌, ◌^◌, ltb, eqb}
-use Rattle.symplectic.specs.Turns.{all_of, product}
+use Rattle.symplectic.specs.Turns.{product}
+use Rattle.std.specs.List.{list_all}
 
 -- each row is free of bits from m up
 unfoldable pub fit_all : ℕ → List ℕ → Bool
-fit_all m rows = all_of (λ v. ltb v (2 ^ m)) rows
+fit_all m rows = list_all (λ v. ltb v (2 ^ m)) rows
 
 -- two lists of numbers are equal
 abbrev pub same_rows : List ℕ → List ℕ → Bool

@@ -1,7 +1,8 @@
 -- Vectors, the pairing, turns, products of turns, and the symplectic test.
 -- A vector of n qubits is a row of 2n columns: bit q is the x of qubit q, bit n + q its z.
 -- Assumes nothing.
-use Rattle.std.specs.Prelude.{Bool, true, ◌&&◌, ℕ, ◌+◌, ◌/◌, ◌%◌, ◌^◌}
+use Rattle.std.specs.List.{list_all}
+use Rattle.std.specs.Prelude.{Bool, ℕ, ◌+◌, ◌/◌, ◌%◌, ◌^◌}
 use Rattle.std.specs.Bool.{beq}
 use mathlib.Core.List.{List, [], ◌∷◌, map, zip, zip_with}
 use Rattle.binar.specs.Bits.{◌⊻◌, select, ◌⊕◌, dot}
@@ -35,18 +36,13 @@ followed_by n F (v ∷ vs) = followed_by n (followed n F v) vs
 unfoldable pub product : ℕ → List ℕ → List ℕ
 product n vs = followed_by n (units (n + n)) vs
 
--- every member of a list passes the test
-abbrev pub all_of : {A : Type 0} → (A → Bool) → List A → Bool
-all_of f [] = true
-all_of f (x ∷ xs) = f x && all_of f xs
-
 -- two rows pair as their two basis vectors do
 unfoldable pub pair_alike : ℕ → ℕ × ℕ → ℕ × ℕ → Bool
 pair_alike n a b = beq (pairing n a.0 b.0) (pairing n a.1 b.1)
 
 -- F is symplectic: its rows pair as the basis does
 unfoldable pub symplectic : ℕ → List ℕ → Bool
-symplectic n F = let rows = zip F (units (n + n)) in all_of (λ a. all_of (pair_alike n a) rows) rows
+symplectic n F = let rows = zip F (units (n + n)) in list_all (λ a. list_all (pair_alike n a) rows) rows
 
 -- I + F
 unfoldable pub identity_plus : ℕ → List ℕ → List ℕ

@@ -1,14 +1,13 @@
 -- The greedy list's next vector by indices: what stands at index i of I + F and beside its basis vector, and which vector is taken.
 -- Assumes nothing.
 use mathlib.Core.Path.{◌≡◌, sym, ap, ap₂, ◌∙◌, subst}
-use mathlib.Core.Bool.{Bool, true, false, not}
+use mathlib.Core.Bool.{Bool, not}
 use mathlib.Core.List.{List, map}
-use mathlib.Core.Option.{none, some}
+use mathlib.Core.Option.{none}
 use Prim.Native.Nat.{ℕ, ◌+◌, ◌^◌, ◌≤◌, ◌<◌}
 use lib.Dec.{eqb}
 use lib.Pow.{pow-lt}
 use lib.ListN.{length, get_or, drop, length-map, drop_of_length-le}
-use borrow.Author.Tests.{eq-eqb, ne_eqb}
 use Rattle.binar.specs.Bits.{◌⊻◌, ◌⊕◌}
 use Rattle.binar.proofs.Sums.{sum_comm}
 use Rattle.blocks.specs.Matrices.{times, units}
@@ -19,31 +18,22 @@ use Rattle.symplectic.specs.Turns.{pairing, identity_plus}
 use Rattle.symplectic.specs.Picks.{or_if, add_both}
 use Rattle.symplectic.proofs.Layers.{added, added_is, identity_plus_is}
 use Rattle.transvection.specs.Greedy.{beside_basis, row_pairing, first_nonzero}
+use Rattle.transvection.specs.inner.Searches.{row_at}
 use Rattle.transvection.proofs.Taken.{beside, beside_basis_is}
 use Rattle.symplectic.proofs.FirstPicks.{drop_open, uneven}
 
 -- ---- the lowest nonzero row
 
-module _ (l : List ℕ) (d : ℕ) where
-  nonzero_open : (i : ℕ) (b : Bool) → i < length l → eqb (get_or l i d) 0 ≡ b → first_nonzero (drop i l) ≡ or_if (not b) (get_or l i d) (first_nonzero (drop (i + 1) l))
-  unfolding first_nonzero
-  nonzero_open i b h e = ap first_nonzero (drop_open l i d h) ∙ ap (λ c. or_if (not c) (get_or l i d) (first_nonzero (drop (i + 1) l))) e
+pub first_nonzero_open : (l : List ℕ) (i v : ℕ) → i < length l → get_or l i 0 ≡ v
+    → first_nonzero (drop i l) ≡ or_if (not (eqb v 0)) v (first_nonzero (drop (i + 1) l))
+unfolding first_nonzero
+first_nonzero_open l i v h e = ap first_nonzero (drop_open l i 0 h) ∙ ap (λ w. or_if (not (eqb w 0)) w (first_nonzero (drop (i + 1) l))) e
 
-  pub first_nonzero_skip : (i : ℕ) → i < length l → get_or l i d ≡ 0 → first_nonzero (drop i l) ≡ first_nonzero (drop (i + 1) l)
-  first_nonzero_skip i h e = nonzero_open i true h (eq-eqb (get_or l i d) 0 e)
-
-  pub first_nonzero_here : (i : ℕ) → i < length l → (get_or l i d ≡ 0 → ⊥) → first_nonzero (drop i l) ≡ some (get_or l i d)
-  first_nonzero_here i h e = nonzero_open i false h (ne_eqb (get_or l i d) 0 e)
-
-  pub first_nonzero_end : (i : ℕ) → length l ≤ i → first_nonzero (drop i l) ≡ none
-  unfolding first_nonzero
-  first_nonzero_end i h = ap first_nonzero (drop_of_length-le l h)
+pub first_nonzero_end : (l : List ℕ) (i : ℕ) → length l ≤ i → first_nonzero (drop i l) ≡ none
+unfolding first_nonzero
+first_nonzero_end l i h = ap first_nonzero (drop_of_length-le l h)
 
 -- ---- the rows of I + F
-
--- row i of I + F
-abbrev pub row_at : List ℕ → ℕ → ℕ
-row_at F i = get_or F i 0 ⊕ 2 ^ i
 
 -- row i's pairing with basis vector j
 abbrev pub meets : ℕ → List ℕ → ℕ → ℕ → Bool

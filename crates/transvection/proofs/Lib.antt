@@ -6,3 +6,4 @@ pub mod Choices
 pub mod Searches
 pub mod Kept
 pub mod Replied
+pub mod Finds

@@ -12,127 +12,97 @@ ghost use Rattle.actions.specs.Actions.{qubits, matrix};
 ghost use Rattle.questions.specs.Replies.{Replays};
 ghost use Rattle.questions.specs.Answers.{figures_of_lem};
 ghost use Rattle.transvection.specs.Greedy.{first_nonzero, next_transvection_lem, recorded, greedy_list, greedy_reply};
-ghost use Rattle.transvection.specs.inner.Searches.{chosen, one_from, with_from, pair_from};
+ghost use Rattle.transvection.specs.inner.Searches.{chosen, row_at, one_from, with_from, pair_from};
 
 use actions::Action;
 use binar::Row;
-use questions::Listing;
+use questions::ListingError;
 
 // How many turns a record has room for: 4n + 2 at the most qubits.
 const RECORD_ROOM: usize = 130;
 
-// What a search of the rows finds.
+// The rows of an action F of n qubits, in lent words.
 #[derive(Clone, Copy)]
-enum Found {
-    Vector { row: Row },
-    Nothing,
+struct Standing<'a> {
+    n: usize,
+    words: &'a [u64],
+    ghost few: { n ≤ max_qubits },
+    ghost all: { length (rows_in_lem words.now) ≡ n + n },
 }
 
-// Row i of I + F, from row i of F.
-fn row_at(u: Row, i: usize) -> Row
-    requires { i < width }
-    ensures { val result ≡ val u ⊕ 2 ^ i }
-{
-    binar::sum(u, binar::unit(i))
-}
-
-// A row's pairing with basis vector j: its bit in the other half.
-fn meets(n: usize, row: Row, j: usize) -> bool
-    requires { (n ≤ max_qubits) × (j < n + n) }
-    ensures { result ≡ pairing n (val row) (2 ^ j) }
-{
-    if j < n {
-        binar::bit(row, j + n)
-    } else {
-        binar::bit(row, j - n)
+impl<'a> Standing<'a> {
+    // Row i of I + F.
+    fn plus(&self, i: usize) -> Row
+        requires { i < self.now.n + self.now.n }
+        ensures { val result ≡ row_at (rows_in_lem self.now.words.now) i }
+    {
+        blocks::row(&self.words, i) ^ Row::unit(i)
     }
-}
 
-// The lowest row that pairs to 1 with its own basis vector.
-fn one_row(n: usize, w: &[u64]) -> Found
-    requires { (n ≤ max_qubits) × (length (rows_in_lem w.now) ≡ n + n) }
-    ensures { chosen result ≡ one_from n (rows_in_lem w.now) 0 }
-{
-    let count = n + n;
-    for i in 0..count {
-        let u = row_at(blocks::row(w, i), i);
-        if meets(n, u, i) {
-            return Found::Vector { row: u };
+    // A row's pairing with basis vector j: its bit in the other half.
+    fn meets(&self, row: Row, j: usize) -> bool
+        requires { j < self.now.n + self.now.n }
+        ensures { result ≡ pairing self.now.n (val row) (2 ^ j) }
+    {
+        if j < self.n {
+            row.bit(j + self.n)
+        } else {
+            row.bit(j - self.n)
         }
     }
-    Found::Nothing
-}
 
-// The sum of row i and the first row j behind it where row i's pairing with basis vector j differs from row j's with basis vector i.
-fn pair_with(n: usize, w: &[u64], i: usize) -> Found
-    requires { (n ≤ max_qubits) × (length (rows_in_lem w.now) ≡ n + n) × (i < n + n) }
-    ensures { chosen result ≡ with_from n (rows_in_lem w.now) i (i + 1) }
-{
-    let count = blocks::rows_in(w);
-    let u = row_at(blocks::row(w, i), i);
-    for j in i + 1..count {
-        let v = row_at(blocks::row(w, j), j);
-        if meets(n, u, j) != meets(n, v, i) {
-            let s = binar::sum(u, v);
-            return Found::Vector { row: s };
-        }
+    // The lowest row of I + F that pairs to 1 with its own basis vector.
+    fn one_row(&self) -> Option<Row>
+        ensures { chosen result ≡ one_from self.now.n (rows_in_lem self.now.words.now) 0 }
+    {
+        (0..self.n + self.n).find_map(|i| {
+            let u = self.plus(i);
+            self.meets(u, i).then_some(u)
+        })
     }
-    Found::Nothing
-}
 
-// The sum of the first such pair.
-fn pair_of_rows(n: usize, w: &[u64]) -> Found
-    requires { (n ≤ max_qubits) × (length (rows_in_lem w.now) ≡ n + n) }
-    ensures { chosen result ≡ pair_from n (rows_in_lem w.now) 0 }
-{
-    let count = n + n;
-    for i in 0..count {
-        let pair = pair_with(n, w, i);
-        match pair {
-            Found::Vector { row: _ } => {
-                return pair;
-            }
-            Found::Nothing => {}
-        }
+    // The sum of row i and the first row j behind it where row i's pairing with basis vector j differs from row j's with basis vector i.
+    fn pair_with(&self, i: usize) -> Option<Row>
+        requires { i < self.now.n + self.now.n }
+        ensures { chosen result ≡ with_from self.now.n (rows_in_lem self.now.words.now) i (i + 1) }
+    {
+        let u = self.plus(i);
+        (i + 1..self.n + self.n).find_map(|j| {
+            let v = self.plus(j);
+            (self.meets(u, j) != self.meets(v, i)).then_some(u ^ v)
+        })
     }
-    Found::Nothing
-}
 
-// The lowest nonzero row.
-fn nonzero_row(n: usize, w: &[u64]) -> Found
-    requires { (n ≤ max_qubits) × (length (rows_in_lem w.now) ≡ n + n) }
-    ensures { chosen result ≡ first_nonzero (identity_plus n (rows_in_lem w.now)) }
-{
-    let count = n + n;
-    for i in 0..count {
-        let u = row_at(blocks::row(w, i), i);
-        if !binar::is_zero(u) {
-            return Found::Vector { row: u };
-        }
+    // The sum of the first such pair.
+    fn pair_of_rows(&self) -> Option<Row>
+        ensures { chosen result ≡ pair_from self.now.n (rows_in_lem self.now.words.now) 0 }
+    {
+        (0..self.n + self.n).find_map(|i| self.pair_with(i))
     }
-    Found::Nothing
-}
 
-// The vector that the greedy rule takes next.
-fn next_transvection(n: usize, w: &[u64]) -> Found
-    requires { (n ≤ max_qubits) × (length (rows_in_lem w.now) ≡ n + n) }
-    ensures { chosen result ≡ next_transvection_lem n (rows_in_lem w.now) }
-{
-    let one = one_row(n, w);
-    match one {
-        Found::Vector { row: _ } => {
-            return one;
-        }
-        Found::Nothing => {}
+    // The lowest nonzero row of I + F.
+    fn nonzero_row(&self) -> Option<Row>
+        ensures { chosen result ≡ first_nonzero (identity_plus self.now.n (rows_in_lem self.now.words.now)) }
+    {
+        (0..self.n + self.n).find_map(|i| {
+            let u = self.plus(i);
+            (!u.is_zero()).then_some(u)
+        })
     }
-    let pair = pair_of_rows(n, w);
-    match pair {
-        Found::Vector { row: _ } => {
-            return pair;
+
+    // The vector that the greedy rule takes next.
+    #[tactic(auto, using(crate::proofs::Searches::next_searches))]
+    fn next_transvection(&self) -> Option<Row>
+        ensures { chosen result ≡ next_transvection_lem self.now.n (rows_in_lem self.now.words.now) }
+    {
+        if let Some(row) = self.one_row() {
+            return Some(row);
         }
-        Found::Nothing => {}
+        if let Some(sum) = self.pair_of_rows() {
+            return Some(sum);
+        }
+        self.nonzero_row()
     }
-    nonzero_row(n, w)
 }
 
 // The turns that undo the action whose rows stand in lent words, put into others; how many they are. The rows follow the turns.
@@ -143,16 +113,15 @@ fn record_turns(n: u64, w: &mut [u64], kept: &mut [u64]) -> usize
     let m = n as usize;
     let limit = m * 4 + 2;
     for i in 0..limit {
-        let next = next_transvection(m, &w[..]);
-        match next {
-            Found::Vector { row } => {
-                symplectic::follow(n, w, row);
-                blocks::put(kept, i, row);
-            }
-            Found::Nothing => {
-                return i;
-            }
-        }
+        let standing = Standing {
+            n: m,
+            words: &w[..],
+        };
+        let Some(v) = standing.next_transvection() else {
+            return i;
+        };
+        symplectic::follow(n, w, v);
+        blocks::put(kept, i, v);
     }
     limit
 }
@@ -196,22 +165,16 @@ fn lay_list(a: Action, out: &mut [u64]) -> usize
 }
 
 // A list of turns whose product is the lent action, at most four for each qubit.
-pub fn clifford_to_transvections(n: u64, rows: &[u64], out: &mut [u64]) -> Listing
+pub fn clifford_to_transvections(n: u64, rows: &[u64], out: &mut [u64]) -> Result<u64, ListingError>
     ensures answered { figures_of_lem result ≡ (greedy_reply n rows.now out.old).figures }
     ensures left { out.new ≡ (greedy_reply n rows.now out.old).words }
     ensures replays { Replays n rows.now out.new (figures_of_lem result) }
     ensures few { (figures_of_lem result).count ≤ 4 * n }
 {
-    let asked = questions::listing_of(questions::action_questions(n, rows));
-    let Listing::Listed { count: _ } = asked else {
-        return asked;
-    };
+    questions::action_questions(n, rows)?;
     let wanted = n * 4 + 2;
     if out.len() < wanted as usize {
-        return Listing::OutputTooShort;
+        return Err(ListingError::OutputTooShort);
     }
-    let count = lay_list(actions::from_words(n, rows), out);
-    Listing::Listed {
-        count: count as u64,
-    }
+    Ok(lay_list(actions::from_words(n, rows), out) as u64)
 }

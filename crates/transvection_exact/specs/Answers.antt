@@ -1,26 +1,32 @@
 -- What the answer of the minimal call says, and what the call promises of it.
 -- Assumes nothing.
-use Rattle.std.specs.Prelude.{◌≡◌, List, ◌⊎◌, ℕ, suc, ◌+◌, ◌≤◌, ◌<◌, length}
+use Rattle.std.specs.Prelude.{◌≡◌, List, ◌⊎◌, ℕ, suc, ◌+◌, ◌≤◌, ◌<◌, length, Result, Ok, Err}
 use Rattle.blocks.specs.Words.{rows_of_words}
 use Rattle.questions.specs.declared.Figures.{Figures}
 use Rattle.questions.specs.Replies.{Reply, action_questions_lem, list_questions}
 use Rattle.residue.specs.Residue.{basis}
 use Rattle.triangular.specs.Bases.{TriangularBasis}
 use Rattle.triangular.specs.Search.{looks_of}
-use Rattle.transvection_exact.specs.declared.Minimal.{Minimal}
-use Rattle.transvection_exact.specs.declared.Minimal.TheVariants.{Listed, TooManyQubits, WrongRowCount, RowTooWide, NotSymplectic, OutputTooShort, Spent}
+use Rattle.questions.specs.Answers.{listing_number}
+use Rattle.transvection_exact.specs.declared.Listed.{Listed}
+use Rattle.transvection_exact.specs.declared.MinimalError.{MinimalError}
+use Rattle.transvection_exact.specs.declared.MinimalError.TheVariants.{Listing, Spent}
 use Rattle.memory.specs.Entries.{entry_size}
 use Rattle.transvection_exact.specs.Minimal.{core_search, core_search_with}
 
--- the number of the question that was answered no, 0 for an answer; the count of the list; the looks of the search. Open to users
-abbrev pub figures_of_lem : Minimal → Figures
-figures_of_lem (Listed count looks) = record { number = 0; count = count; looks = looks }
-figures_of_lem TooManyQubits = record { number = 1; count = 0; looks = 0 }
-figures_of_lem WrongRowCount = record { number = 2; count = 0; looks = 0 }
-figures_of_lem RowTooWide = record { number = 3; count = 0; looks = 0 }
-figures_of_lem NotSymplectic = record { number = 4; count = 0; looks = 0 }
-figures_of_lem OutputTooShort = record { number = 5; count = 0; looks = 0 }
-figures_of_lem (Spent looks) = record { number = 6; count = 0; looks = looks }
+-- these three are open to users
+abbrev pub minimal_number : MinimalError → ℕ
+minimal_number (Listing e) = listing_number e
+minimal_number (Spent looks) = 6
+
+abbrev pub looks_taken : MinimalError → ℕ
+looks_taken (Listing e) = 0
+looks_taken (Spent looks) = looks
+
+-- the number of the question that was answered no, 0 for an answer; the count of the list; the looks of the search
+abbrev pub figures_of_lem : Result Listed MinimalError → Figures
+figures_of_lem (Ok l) = record { number = 0; count = l.count; looks = l.looks }
+figures_of_lem (Err e) = record { number = minimal_number e; count = 0; looks = looks_taken e }
 
 -- r, the count of V's rows and so the rank of I + F, where the core has a triangular basis, and r + 1 where it has none
 abbrev pub RankOrOneMore : ℕ → List ℕ → ℕ → Type 0

@@ -3,7 +3,7 @@
 #![tactic(auto)]
 
 // How a search ends.
-#[derive(Clone, Copy)]
+#[derive(Clone, Copy, Debug, PartialEq, Eq)]
 pub enum Ending {
     Found,
     Failed,

@@ -6,7 +6,8 @@ use mathlib.Core.List.{[], ◌∷◌, map, zip, zip_with}
 use lib.ListN.{length}
 use Rattle.binar.specs.Bits.{odd, bit, ◌⊕◌, weight, dot}
 use Rattle.blocks.specs.Matrices.{times, units, dots}
-use Rattle.symplectic.specs.Turns.{x_bits, z_bits, pairing, all_of, pair_alike, symplectic, identity_plus}
+use Rattle.symplectic.specs.Turns.{x_bits, z_bits, pairing, pair_alike, symplectic, identity_plus}
+use Rattle.std.specs.List.{list_all}
 use Rattle.reduction.specs.Columns.{columns, row_reduce_with_transform_lem, rank}
 use Rattle.residue.specs.Residue.{residue, reduction, basis, transform, times_transposed, core, form}
 use Rattle.triangular.specs.Search.{draws, search}
@@ -33,7 +34,7 @@ unfolding ascends above book
 codes_ascend = refl
 
 -- and fit their numbers
-pub all_fit : all_of fits book ≡ true
+pub all_fit : list_all fits book ≡ true
 unfolding fits book
 all_fit = refl
 
@@ -42,7 +43,7 @@ unfolding book
 book_length = refl
 
 -- every entry is right
-pub all_right : all_of is_right book ≡ true
+pub all_right : list_all is_right book ≡ true
 unfolding is_right book rows_of_code symplectic pair_alike pairing x_bits z_bits dot weight odd bit ◌⊕◌ zip zip_with times units dots identity_plus columns row_reduce_with_transform_lem residue reduction basis transform times_transposed core form draws search complement symmetric_with is_alternating_lem core_search
 all_right = refl
 

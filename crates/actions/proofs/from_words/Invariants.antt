@@ -9,7 +9,7 @@ use Rattle.actions.specs.Actions.{vals}
 use Rattle.actions.proofs.from_words.Given as goal
 
 abbrev pub invariant-loop-i : goal.invariant-loop-i
-invariant-loop-i l = (l.i ≤ l.count) × (l.a.n ≡ l.n) × (vals l.a.rows ≡ take l.i (rows_of_words l.n l.words) ++ drop l.i (replicate most_rows 0))
+invariant-loop-i l = (l.i ≤ l.i-end) × (vals l.rows ≡ take l.i (rows_of_words l.n l.words) ++ drop l.i (replicate most_rows 0))
 
 abbrev pub decreases-loop-i : goal.decreases-loop-i
-decreases-loop-i l = l.count - l.i
+decreases-loop-i l = l.i-end - l.i

@@ -21,7 +21,7 @@ pub overflow_add-n : goal.overflow_add-n
 overflow_add-n c = omega (arith, qubits_le c.args.a, qubits_is c)
 
 pub loop-i-init : goal.loop-i-init
-loop-i-init c = (search rules, omega (arith, qubits_le c.args.a, qubits_is (goal.at.loop-i-init c).After-capped-n, c.lesser-count.ensures), refl, refl)
+loop-i-init c = (search rules, omega (arith, qubits_le c.args.a, qubits_is (goal.at.loop-i-init c).After-capped-n, c.min-count.ensures), refl, refl)
 
 pub loop-i-preserved : goal.loop-i-preserved
 loop-i-preserved c =
@@ -29,7 +29,7 @@ loop-i-preserved c =
     let at = c.loop-i in
     let m = matrix s.a in
     let size = matrix_length s.a (long (goal.at.loop-i-preserved c).Start) in
-    let e = c.lesser-count.ensures in
+    let e = c.min-count.ensures in
     let h : at.i < qubits s.a + qubits s.a = omega (arith, e, qubits_is (goal.at.loop-i-preserved c).After-capped-n) in
     let g : at.i < length s.out.now = omega (arith, e) in (
       search rules,
@@ -43,4 +43,4 @@ returns c =
     let s = c.args in
     let size = matrix_length s.a (long (goal.at.returns c).Start) in
     c.loop-i.invariant.3
-    ∙ laid_end (qubits s.a) (matrix s.a) s.out.now c.loop-i.i (omega (arith, c.lesser-count.ensures, qubits_is (goal.at.returns c).After-capped-n))
+    ∙ laid_end (qubits s.a) (matrix s.a) s.out.now c.loop-i.i (omega (arith, c.min-count.ensures, qubits_is (goal.at.returns c).After-capped-n))

@@ -12,7 +12,7 @@ use Rattle.symplectic.specs.Sizes.{most_rows}
 use Rattle.symplectic.specs.Turns.{identity_plus}
 use Rattle.actions.specs.Actions.{qubits, matrix}
 use Rattle.actions.proofs.Arrays.{qubits_le, qubits_capped, matrix_length}
-use Rattle.reduction.proofs.Words.{lent_room, lent_count, lent_rows, left_room, left_count}
+use Rattle.reduction.proofs.Words.{lent_count, lent_rows, left_count}
 use Rattle.residue.proofs.Parts.{plus_length}
 use Rattle.fixed_space.proofs.Parts.{fixed_is}
 use native.Mathlib.Omega.{arith}
@@ -50,45 +50,6 @@ is c =
 pub overflow_add-m : goal.overflow_add-m
 overflow_add-m c = omega (arith, fits c)
 
-pub slice_bounds-start-end : goal.slice_bounds-start-end
-slice_bounds-start-end c = refl
-
-pub slice_bounds-rows-end : goal.slice_bounds-rows-end
-slice_bounds-rows-end c =
-    let n = c.capped-n.result in
-    lent_room (n + n) most_rows c.start-to.result c.start-to.ensures
-
-pub slice_bounds-put_identity_plus-end : goal.slice_bounds-put_identity_plus-end
-slice_bounds-put_identity_plus-end c =
-    let n = c.capped-n.result in
-    lent_count (n + n) most_rows c.start-to.result c.start-to.ensures
-
-pub slice_bounds-rows-end-2 : goal.slice_bounds-rows-end-2
-slice_bounds-rows-end-2 c =
-    let n = c.capped-n.result in
-    let to = c.start-to in
-    let o = c.put_identity_plus in
-    left_room (n + n) most_rows to.result to.ensures o.new.w o.auto.w
-
-pub slice_bounds-lay_kernel-end : goal.slice_bounds-lay_kernel-end
-slice_bounds-lay_kernel-end c =
-    let n = c.capped-n.result in
-    let to = c.start-to in
-    let o = c.put_identity_plus in
-    left_count (n + n) most_rows to.result to.ensures o.new.w o.auto.w
-
-pub slice_bounds-transform-end : goal.slice_bounds-transform-end
-slice_bounds-transform-end c =
-    let n = c.capped-n.result in
-    let to = c.start-to in
-    lent_room (n + n) most_rows to.result to.ensures
-
-pub slice_bounds-lay_kernel-end-2 : goal.slice_bounds-lay_kernel-end-2
-slice_bounds-lay_kernel-end-2 c =
-    let n = c.capped-n.result in
-    let to = c.start-to in
-    lent_count (n + n) most_rows to.result to.ensures
-
 pub lay_kernel-requires : goal.lay_kernel-requires
 lay_kernel-requires c =
     let n = c.capped-n.result in
@@ -97,9 +58,6 @@ lay_kernel-requires c =
     let part = sym (left_count (n + n) most_rows to.result to.ensures o.new.w o.auto.w) ∙ lent_count (n + n) most_rows to.result to.ensures in
     let same = lent_same _ (take to.result (replicate most_rows 0)) part in
     (same, omega (arith, same, long (goal.at.lay_kernel-requires c).After-start-to, fits (goal.at.lay_kernel-requires c).After-capped-n))
-
-pub shape_of-out : goal.shape_of-out
-shape_of-out c = c.lay_kernel.auto.out
 
 pub returns : goal.returns
 returns c =

@@ -1,5 +1,4 @@
 -- `kernel` takes the rows of the transform from the rank on, by `kernel_end`.
-use mathlib.Core.Path.{refl}
 use mathlib.Core.List.{List}
 use Prim.Native.Nat.{ℕ, ◌≤◌, min}
 use lib.ListN.{length, replicate, length-replicate}
@@ -10,9 +9,6 @@ use Rattle.reduction.proofs.InPlace.{reduced_whole}
 use Rattle.fixed_space.proofs.Parts.{kernel_end}
 use native.Mathlib.Omega.{arith}
 use Rattle.fixed_space.proofs.kernel.Goals as goal
-
-pub slice_bounds-row_reduce_with_transform-end : goal.slice_bounds-row_reduce_with_transform-end
-slice_bounds-row_reduce_with_transform-end c = refl
 
 pub returns : goal.returns
 returns c =

@@ -1,5 +1,5 @@
 -- `lay_basis` lays the rows up to the rank, by `basis_end`.
-use mathlib.Core.Path.{refl, ap, ◌∙◌}
+use mathlib.Core.Path.{ap, ◌∙◌}
 use mathlib.Core.List.{List}
 use Prim.Native.Nat.{ℕ, ◌≤◌, min}
 use lib.ListN.{length, replicate, length-replicate}
@@ -7,18 +7,9 @@ use Rattle.binar.specs.Rows.{width}
 use Rattle.blocks.specs.Words.{rows_in_lem, laid}
 use Rattle.blocks.proofs.Lent.{lent_front}
 use Rattle.symplectic.specs.Sizes.{most_rows}
-use Rattle.symplectic.proofs.Work.{part_words}
 use Rattle.fixed_space.proofs.Parts.{basis_count, basis_end}
 use native.Mathlib.Omega.{arith}
 use Rattle.fixed_space.proofs.lay_basis.Goals as goal
-
-pub slice_bounds-row_reduce_with_transform-end : goal.slice_bounds-row_reduce_with_transform-end
-slice_bounds-row_reduce_with_transform-end c = refl
-
-pub slice_bounds-lay-end-2 : goal.slice_bounds-lay-end-2
-slice_bounds-lay-end-2 c =
-    let r = c.row_reduce_with_transform-r in
-    part_words _ c.start-to.result r.new.a c.start-to.ensures
 
 pub returns : goal.returns
 returns c =

@@ -4,7 +4,7 @@ use mathlib.Core.List.{List}
 use Prim.Native.Nat.{ℕ, ◌-◌}
 use lib.ListN.{length, take, drop, length-drop}
 use Rattle.blocks.specs.Words.{rows_in_lem, laid}
-use Rattle.blocks.proofs.Lent.{lent_same, lent_within, lent_rest}
+use Rattle.blocks.proofs.Lent.{lent_same, lent_rest}
 use Rattle.fixed_space.specs.FixedSpace.{reduced_basis}
 use native.Mathlib.Omega.{arith}
 use Rattle.fixed_space.proofs.lay_kernel.Goals as goal
@@ -17,14 +17,6 @@ rest c =
     let k = c.kernel-r in
     let t = k.new.transform in
     lent_rest k.result c.start-from.result t c.start-from.ensures (length t - c.start-from.result) refl
-
-pub kernel-r-requires : goal.kernel-r-requires
-kernel-r-requires c = c.requires
-
-pub slice_bounds-lay_basis-start : goal.slice_bounds-lay_basis-start
-slice_bounds-lay_basis-start c =
-    let k = c.kernel-r in
-    lent_within _ c.start-from.result k.new.transform c.start-from.ensures
 
 pub lay_basis-requires : goal.lay_basis-requires
 lay_basis-requires c =

@@ -11,5 +11,5 @@ pub returns : goal.returns
 returns c =
     let s = c.args in
     c.weight.ensures
-    ∙ ap weight (c.low.ensures ∙ ap (λ (w : ℕ). w % 2 ^ s.n) (c.or-either.ensures ∙ ap (bit_or (val s.v)) c.shift_down.ensures))
+    ∙ ap weight (c.low.ensures ∙ ap (λ (w : ℕ). w % 2 ^ s.n) (c.bitor-either.ensures ∙ ap (bit_or (val s.v)) c.shift_down.ensures))
     ∙ touched_weight s.n (val s.v)

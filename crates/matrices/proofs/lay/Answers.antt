@@ -16,7 +16,7 @@ loop-i-preserved c =
     let s = c.args in
     let at = c.loop-i in
     let rows = rows_in_lem s.w.now in
-    let k = c.lesser-k.ensures in
+    let k = c.min-k.ensures in
     let h : at.i < length rows = omega (arith, k, c.rows_in.ensures) in
     let g : at.i < length s.out.now = omega (arith, k) in (
       search rules,
@@ -28,4 +28,4 @@ pub returns : goal.returns
 returns c =
     let s = c.args in
     c.loop-i.invariant.2
-    ∙ laid_end s.n (rows_in_lem s.w.now) s.out.now c.loop-i.i (omega (arith, c.lesser-k.ensures, c.rows_in.ensures))
+    ∙ laid_end s.n (rows_in_lem s.w.now) s.out.now c.loop-i.i (omega (arith, c.min-k.ensures, c.rows_in.ensures))

@@ -19,8 +19,8 @@ loop-i-preserved c =
     let at = c.loop-i in
     let A = rows_in_lem s.a.now in
     let B = rows_in_lem s.b.now in
-    let h : at.i < length A = omega (arith, c.lesser-k.ensures, c.rows_in.ensures) in
-    let g : at.i < length s.out.now = omega (arith, c.lesser-k.ensures) in (
+    let h : at.i < length A = omega (arith, c.min-k.ensures, c.rows_in.ensures) in
+    let g : at.i < length s.out.now = omega (arith, c.min-k.ensures) in (
       search rules,
       simp length-set at.invariant.1,
       laid_next s.n (matmul A B) s.out.now at.out at.i c.word.result _ (omega (arith, matmul_length A B)) g at.invariant.2 c.word.ensures
@@ -32,4 +32,4 @@ returns c =
     let s = c.args in
     let A = rows_in_lem s.a.now in
     let B = rows_in_lem s.b.now in
-    c.loop-i.invariant.2 ∙ laid_end s.n (matmul A B) s.out.now c.loop-i.i (omega (arith, c.lesser-k.ensures, c.rows_in.ensures, matmul_length A B))
+    c.loop-i.invariant.2 ∙ laid_end s.n (matmul A B) s.out.now c.loop-i.i (omega (arith, c.min-k.ensures, c.rows_in.ensures, matmul_length A B))

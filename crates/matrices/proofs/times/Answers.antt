@@ -17,7 +17,7 @@ use Rattle.binar.specs.Bits.{◌⊕◌}
 use borrow.Author.Tests.{eqb-true}
 use borrow.Author.Rules.{rules}
 use Rattle.matrices.proofs.times.Goals as goal
-use Rattle.matrices.proofs.times.Goals.{After-sum-bits, In-loop-bits}
+use Rattle.matrices.proofs.times.Goals.{After-bitxor_assign-in-loop-bits, In-loop-bits}
 
 -- the lowest one of what is left
 low : (c : goal.In-loop-bits)
@@ -29,16 +29,16 @@ low c =
     lowest_row (length (rows_in_lem c.args.w.now)) (val at.bits) (sym c.is_zero.ensures ∙ off) at.invariant.0 at.invariant.1
 
 -- what is left once it is taken out
-out : (c : goal.After-sum-bits) → val c.sum-bits.result ≡ val c.loop-bits.bits ⊕ 2 ^ c.lowest-t.result
+out : (c : goal.After-bitxor_assign-in-loop-bits) → val c.bitxor_assign-in-loop-bits.new.self ≡ val c.loop-bits.bits ⊕ 2 ^ c.lowest-t.result
 out c =
     let t = c.lowest-t.result in
     let e : t ≡ lowest (val c.loop-bits.bits) = c.lowest-t.ensures in
-    c.sum-bits.ensures ∙ ap (λ (x : ℕ). val c.loop-bits.bits ⊕ x) (c.unit.ensures ∙ unit_is t (subst (λ (x : ℕ). x < width) (sym e) (low (goal.at.After-sum-bits c).In-loop-bits).0))
+    c.bitxor_assign-in-loop-bits.ensures.after ∙ ap (λ (x : ℕ). val c.loop-bits.bits ⊕ x) (c.unit.ensures ∙ unit_is t (subst (λ (x : ℕ). x < width) (sym e) (low (goal.at.After-bitxor_assign-in-loop-bits c).In-loop-bits).0))
 
-less : (c : goal.After-sum-bits) → val c.sum-bits.result < val c.loop-bits.bits
+less : (c : goal.After-bitxor_assign-in-loop-bits) → val c.bitxor_assign-in-loop-bits.new.self < val c.loop-bits.bits
 less c =
     let x = val c.loop-bits.bits in
-    subst (λ (y : ℕ). y < x) (sym (out c ∙ ap (λ (t : ℕ). x ⊕ 2 ^ t) c.lowest-t.ensures)) (low (goal.at.After-sum-bits c).In-loop-bits).2
+    subst (λ (y : ℕ). y < x) (sym (out c ∙ ap (λ (t : ℕ). x ⊕ 2 ^ t) c.lowest-t.ensures)) (low (goal.at.After-bitxor_assign-in-loop-bits c).In-loop-bits).2
 
 pub loop-bits-init : goal.loop-bits-init
 loop-bits-init c =
@@ -64,7 +64,7 @@ loop-bits-preserved c =
       omega (arith, at.invariant.0),
       omega (arith, at.invariant.1),
       ap₂ (λ (x y : ℕ). x ⊕ times y rows)
-          (c.sum-s.ensures ∙ ap (λ (x : ℕ). val at.s ⊕ x) c.row.ensures)
+          (c.bitxor_assign.ensures.after ∙ ap (λ (x : ℕ). val at.s ⊕ x) c.row.ensures)
           (out c)
           ∙ times_next rows t (val at.s) (val at.bits) (times (val c.low-bits.result) rows) at.invariant.2,
     )

@@ -2,14 +2,13 @@
 use mathlib.Core.Path.{◌≡◌, sym, ap, ap₂, ◌∙◌}
 use mathlib.Core.List.{List, [], ◌∷◌, ◌++◌}
 use Prim.Native.Nat.{ℕ, ◌/◌, ◌≤◌}
-use lib.ListN.{length, take, drop, set, replicate, length-set}
+use lib.ListN.{length, take, drop, set, replicate}
 use lib.Seq.{length-take-le}
 use Rattle.binar.specs.Rows.{width}
 use Rattle.blocks.specs.Words.{laid, rows_in_lem}
 use Rattle.memory.specs.Entries.{entry_size, entry_words, entered}
-use Rattle.memory.proofs.Kept.{taken_none, taken_some, entered_none, entered_some}
+use Rattle.memory.proofs.Kept.{entered_some}
 use native.Mathlib.Omega.{arith}
-use borrow.Author.Rules.{rules}
 use Rattle.memory.proofs.enter.Goals as goal
 
 -- the dimension written, and what came back from behind it
@@ -22,23 +21,8 @@ put rs (w ∷ ws) ys d room e is =
     ap₂ (λ (k : ℕ) (zs : List ℕ). k ∷ (zs ++ drop 64 ws)) e (is ∙ ap (λ (k : ℕ). laid (width / 2) rs (replicate k 0)) n)
     ∙ sym (entered_some rs (w ∷ ws) room)
 
-pub returns-then-memory-lt-ENTRY : goal.returns-then-memory-lt-ENTRY
-returns-then-memory-lt-ENTRY c =
-    let s = c.args in record {
-      answered = sym (taken_none s.memory.now c.if-memory-lt-ENTRY.true);
-      left = sym (entered_none (rows_in_lem s.basis.now) s.memory.now c.if-memory-lt-ENTRY.true);
-    }
-
-pub shape_of-memory : goal.shape_of-memory
-shape_of-memory c =
+pub returns-clause-left : goal.returns-clause-left
+returns-clause-left c =
     let s = c.args in
-    search (rules, length-set s.memory.now 0 c.rows_in.result)
-
-pub returns : goal.returns
-returns c =
-    let s = c.args in
-    let room = c.if-memory-lt-ENTRY.false in
-    let d = c.rows_in in record {
-      answered = sym (taken_some s.memory.now room);
-      left = put (rows_in_lem s.basis.now) s.memory.now _ d.result room d.ensures c.lay.ensures;
-    }
+    let d = c.rows_in in
+    put (rows_in_lem s.basis.now) s.memory.now _ d.result c.if-memory-lt-ENTRY.false d.ensures c.lay.ensures

@@ -5,23 +5,18 @@ use Prim.Native.Nat.{◌-◌, ◌≤◌, ◌<◌}
 use native.Mathlib.Omega.{arith}
 use lib.ListN.{length}
 use borrow.Author.Rules.{rules}
-use Rattle.lines.specs.Bytes.{line_room, bytes_of}
-use Rattle.lines.proofs.Cuts.{bytes_length}
+use Rattle.lines.specs.Bytes.{line_room}
 use Rattle.printout.specs.Printout.{file_lines}
 use Rattle.printout.specs.Pages.{page, page_reply}
 use Rattle.printout.proofs.Numbered.{file_lines_lem}
 use Rattle.printout.proofs.Filling.{rest, filled_none, filled_laid, filled_whole, filled_last, filled_full}
 use Rattle.printout.proofs.Paging.{replies, page_passed}
 use Rattle.printout.proofs.fill_page.Goals as goal
-use Rattle.printout.proofs.fill_page.Goals.{After-line_at-l, Start, else-loop-k-test, then-loop-k-test+then-out-used}
+use Rattle.printout.proofs.fill_page.Goals.{Start, else-loop-k-test, then-loop-k-test+then-out-used}
 
 -- the last line is that of the file
 lines : (c : goal.Start) → c.args.last ≡ length (file_lines c.args.file.now)
 lines c = c.requires.1 ∙ sym (file_lines_lem c.args.file.now)
-
--- a line has no more bytes than its room
-short : (c : goal.After-line_at-l) → length (bytes_of c.line_at-l.result) ≤ line_room
-short c = let long : length c.line_at-l.result.bytes ≡ line_room = search rules in omega (arith, bytes_length c.line_at-l.result long)
 
 pub loop-k-init : goal.loop-k-init
 loop-k-init c = let s = c.args in (search rules, filled_none (file_lines s.file.now) s.from s.out.now, omega arith)
@@ -38,17 +33,14 @@ slice_bounds-lay-count c = let f = c.loop-k.invariant.1 in omega (arith, f.withi
 pub slice_bounds-lay-start : goal.slice_bounds-lay-start
 slice_bounds-lay-start c = let f = c.loop-k.invariant.1 in omega (arith, f.within, f.long)
 
-pub slice_bounds-lay-end : goal.slice_bounds-lay-end
-slice_bounds-lay-end c = omega arith
-
 pub loop-k-preserved : goal.loop-k-preserved
 loop-k-preserved c =
     let at = c.loop-k in
     let l = c.line_at-l in (
       search rules,
-      filled_laid (file_lines c.args.file.now) c.args.from c.args.out.now at.k at.used at.out at.invariant.1 (omega (arith, lines (goal.at.loop-k-preserved c).Start)) (bytes_of l.result)
-          c.lay.new.out c.length_of-size.result l.ensures c.length_of-size.ensures c.if-out-used.false c.lay.ensures,
-      omega (arith, at.invariant.1.begun, at.invariant.2, c.length_of-size.ensures, short (goal.at.loop-k-preserved c).After-line_at-l),
+      filled_laid (file_lines c.args.file.now) c.args.from c.args.out.now at.k at.used at.out at.invariant.1 (omega (arith, lines (goal.at.loop-k-preserved c).Start)) l.result
+          c.lay.new.out c.len-size.result l.ensures c.len-size.ensures.counted c.if-out-used.false c.lay.ensures,
+      omega (arith, at.invariant.1.begun, at.invariant.2, c.len-size.ensures.counted, c.len-size.ensures.within),
     )
 
 pub overflow_sub-result : goal.overflow_sub-result
@@ -68,8 +60,8 @@ returns c =
     elim c.loop-k-test.branch [
       | else-loop-k-test w ↦ filled_last ls c.args.from out at.k at.used at.out f (omega (arith, lines (goal.at.returns c).Start, w.loop-k-test.false))
       | then-loop-k-test+then-out-used w ↦
-          filled_full ls c.args.from out at.k at.used at.out f (omega (arith, lines (goal.at.returns c).Start, w.loop-k-test.true)) (bytes_of w.line_at-l.result) w.line_at-l.ensures
-          (omega (arith, w.length_of-size.ensures, w.if-out-used.true))
+          filled_full ls c.args.from out at.k at.used at.out f (omega (arith, lines (goal.at.returns c).Start, w.loop-k-test.true)) w.line_at-l.result w.line_at-l.ensures
+          (omega (arith, w.len-size.ensures.counted, w.if-out-used.true))
     ] in
     let r = replies (page_reply c.args.file.now c.args.from out) (page (at.k - c.args.from) at.used) at.out
     (page_passed c.args.file.now c.args.from out c.requires.0 ∙ filled_whole ls c.args.from out at.k at.used at.out f there none) in
@@ -77,8 +69,7 @@ returns c =
     elim c.loop-k-test.branch [
       | else-loop-k-test w ↦ omega (arith, c.requires.2, w.loop-k-test.false)
       | then-loop-k-test+then-out-used w ↦
-          let long : length w.line_at-l.result.bytes ≡ line_room = search rules in
-          omega (arith, f.begun, f.long, at.invariant.2, bytes_length w.line_at-l.result long, w.length_of-size.ensures, w.if-out-used.true)
+          omega (arith, f.begun, f.long, at.invariant.2, w.len-size.ensures.within, w.len-size.ensures.counted, w.if-out-used.true)
     ] in record {
       answered = r.0;
       left = r.1;

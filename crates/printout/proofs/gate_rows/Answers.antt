@@ -4,6 +4,7 @@ use mathlib.Core.Path.{◌≡◌, ap, ◌∙◌}
 use mathlib.Core.List.{List}
 use Prim.Native.Nat.{ℕ, ◌+◌}
 use borrow.Author.Rules.{rules}
+use Rattle.std.proofs.lemmas.Result.{err_from_is_err_and}
 use lib.ListN.{take, replicate}
 use Rattle.symplectic.specs.Sizes.{most_rows}
 use Rattle.questions.specs.Replies.{Reply}
@@ -12,10 +13,10 @@ use Rattle.gates.proofs.SixGates.{six_as_table}
 use Rattle.printout.proofs.Lent.{lent_length}
 use Rattle.printout.proofs.Holding.{gates_loaded, gates_refused}
 use Rattle.printout.proofs.gate_rows.Goals as goal
-use Rattle.printout.proofs.gate_rows.Goals.{After-gate_action-answer}
+use Rattle.printout.proofs.gate_rows.Goals.{After-gate_action}
 
 -- the reply of the call
-reply : (c : goal.After-gate_action-answer) → let s = c.args in
+reply : (c : goal.After-gate_action) → let s = c.args in
     gates_reply s.n c.six_gates-sheet.result s.bytes.now (take (s.n + s.n) (replicate most_rows 0)) ≡ table_reply s.n s.bytes.now (take (s.n + s.n) (replicate most_rows 0))
 reply c =
     let s = c.args in
@@ -27,17 +28,16 @@ slice_bounds-gate_action-end-2 c =
     let n = c.args.n in
     lent_length (n + n) most_rows (search rules)
 
-pub returns-then-figures-eq0 : goal.returns-then-figures-eq0
-returns-then-figures-eq0 c =
-    let call = c.gate_action-answer in
-    let same = reply (goal.at.returns-then-figures-eq0 c).After-gate_action-answer in
-    let t = c.figures_of-figures in
-    gates_loaded c.args.n c.requires c.args.bytes.now t.result (t.ensures ∙ call.ensures.answered ∙ ap (λ (x : Reply). x.figures) same) call.new.out call.auto.out
-    (call.ensures.left ∙ ap (λ (x : Reply). x.words) same) c.if-figures-eq0.true
+pub returns-in_err-gate_action : goal.returns-in_err-gate_action
+returns-in_err-gate_action c =
+    let call = c.gate_action in
+    let same = reply (goal.at.returns-in_err-gate_action c).After-gate_action in
+    let p = err_from_is_err_and c.from_residual.result c.from_residual.ensures.1 in
+    rw (p.1, p.2) (gates_refused c.args.n c.requires c.args.bytes.now call.result (call.ensures.answered ∙ ap (λ (x : Reply). x.figures) same) c.in_err-gate_action.field-0.0 c.in_err-gate_action.was)
 
 pub returns : goal.returns
 returns c =
-    let call = c.gate_action-answer in
-    let same = reply (goal.at.returns c).After-gate_action-answer in
-    let t = c.figures_of-figures in
-    gates_refused c.args.n c.requires c.args.bytes.now t.result (t.ensures ∙ call.ensures.answered ∙ ap (λ (x : Reply). x.figures) same) call.new.out c.if-figures-eq0.false
+    let call = c.gate_action in
+    let same = reply (goal.at.returns c).After-gate_action in
+    gates_loaded c.args.n c.requires c.args.bytes.now call.result (call.ensures.answered ∙ ap (λ (x : Reply). x.figures) same) c.in_ok-gate_action.field-0 c.in_ok-gate_action.was call.new.out call.auto.out
+    (call.ensures.left ∙ ap (λ (x : Reply). x.words) same)

@@ -12,4 +12,4 @@ returns c =
     let s = c.args in
     let reply = refused s.number 0 [] in
     c.entry_line.ensures
-    ∙ line_figures s.n s.i s.which reply.figures [] (search rules) (search rules) reply (search rules) (omega arith) refl refl
+    ∙ line_figures s.n s.i s.which c.nothing_listed.result [] (search rules) (search rules) reply (search rules) (omega arith) c.nothing_listed.ensures refl

@@ -1,5 +1,5 @@
 -- What a read puts behind the bytes that are there is the next that the input gives, by `laid_behind`.
-use Rattle.std.proofs.Common.{◌≡◌, ℕ, ◌+◌, ◌-◌, ◌≤◌, List, ◌++◌, rules, length, take, sym, ap, ◌∙◌, subst, length-take-le}
+use Rattle.std.proofs.Common.{arith, ◌≡◌, ℕ, ◌+◌, ◌-◌, ◌≤◌, List, ◌++◌, rules, length, take, sym, ap, ◌∙◌, subst, length-take-le}
 use Rattle.std.proofs.Math.Seq.{take-append-add, take-append-le}
 use Rattle.std.specs.Io.KnownBytes.{Consumes}
 use Rattle.std.proofs.KnownBytes.{Consumes-trans}
@@ -16,10 +16,10 @@ pub loop-done-preserved : goal.loop-done-preserved
 loop-done-preserved g c =
     let from = c.loop-done.done in
     let room = length c.loop-done.buf - from in
-    let bs = c.read_some-n.new.buf in
+    let bs = c.read.new.buf in
     record {
       same = search rules;
       within = search rules;
-      bytes = subst (Consumes _ _) (sym (laid_behind from room c.read_some-n.result c.loop-done.buf bs c.loop-done.invariant.within c.read_some-n.ensures.within))
-          (Consumes-trans _ _ _ _ _ c.loop-done.invariant.bytes c.read_some-n.ensures.bytes);
+      bytes = subst (Consumes _ _) (sym (laid_behind from room c.in-Ok.n c.loop-done.buf bs c.loop-done.invariant.within (omega (arith, c.in-Ok.ensures.bound))))
+          (Consumes-trans _ _ _ _ _ c.loop-done.invariant.bytes c.in-Ok.ensures.bytes.0);
     }

@@ -17,8 +17,5 @@ steps k c h = columns (0, 0) add_both (λ i a. bit i a.0) k c h
 -- the columns before c are done, and the pivots before p written, no others
 abbrev pub invariant-loop-c : goal.invariant-loop-c
 invariant-loop-c l =
-    (l.c ≤ l.m) × (length l.a ≡ length l.initial.a) × (length l.t ≡ length l.initial.t) × (length l.pivots ≡ length l.initial.pivots) × (l.p ≤ length (rows_in_lem l.initial.a)) × (drop l.p l.pivots ≡ drop l.p l.initial.pivots)
+    (l.p ≤ length (rows_in_lem l.initial.a)) × (drop l.p l.pivots ≡ drop l.p l.initial.pivots)
     × (steps (l.m - l.c) l.c (halves l.p (take l.p l.pivots) (zip (rows_in_lem l.a) (rows_in_lem l.t))) ≡ steps l.m 0 (unreduced (zip (rows_in_lem l.initial.a) (rows_in_lem l.initial.t))))
-
-abbrev pub decreases-loop-c : goal.decreases-loop-c
-decreases-loop-c l = l.m - l.c

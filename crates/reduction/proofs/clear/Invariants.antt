@@ -1,8 +1,7 @@
 -- `clear` adds to row after row of both, by `cleared_next` and `cleared_end`.
 use mathlib.Core.Path.{◌≡◌}
 use mathlib.Core.List.{◌++◌, zip}
-use Prim.Native.Nat.{◌-◌, ◌≤◌}
-use lib.ListN.{length, take, drop}
+use lib.ListN.{take, drop}
 use Rattle.binar.specs.Rows.{val}
 use Rattle.blocks.specs.Words.{rows_in_lem}
 use Rattle.reduction.specs.inner.Sweeps.{cleared}
@@ -11,8 +10,4 @@ use Rattle.reduction.proofs.clear.Given as goal
 -- the rows before i are cleared
 abbrev pub invariant-loop-i : goal.invariant-loop-i
 invariant-loop-i l =
-    (l.i ≤ l.k) × (length l.a ≡ length l.initial.a) × (length l.t ≡ length l.initial.t)
-    × (zip (rows_in_lem l.a) (rows_in_lem l.t) ≡ take l.i (cleared l.c (val l.v, val l.w) (zip (rows_in_lem l.initial.a) (rows_in_lem l.initial.t))) ++ drop l.i (zip (rows_in_lem l.initial.a) (rows_in_lem l.initial.t)))
-
-abbrev pub decreases-loop-i : goal.decreases-loop-i
-decreases-loop-i l = l.k - l.i
+    zip (rows_in_lem l.a) (rows_in_lem l.t) ≡ take l.i (cleared l.c (val l.v, val l.w) (zip (rows_in_lem l.initial.a) (rows_in_lem l.initial.t))) ++ drop l.i (zip (rows_in_lem l.initial.a) (rows_in_lem l.initial.t))

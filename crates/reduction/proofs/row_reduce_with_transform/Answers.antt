@@ -7,33 +7,23 @@ use lib.ListN.{length, take}
 use Rattle.binar.specs.Rows.{width}
 use Rattle.blocks.specs.Words.{rows_in_lem, over}
 use Rattle.blocks.proofs.Lent.{lent_front}
-use Rattle.symplectic.proofs.Work.{part_words, part_rows}
+use Rattle.symplectic.proofs.Work.{part_rows}
 use Rattle.reduction.specs.Columns.{rows, row_reduce_with_transform_lem, rank}
 use Rattle.reduction.proofs.InPlace.{fitting_front, pivots_over, fitting_pivoted}
 use Rattle.reduction.proofs.Words.{put_back}
 use native.Mathlib.Omega.{arith}
 use Rattle.reduction.proofs.row_reduce_with_transform.Goals as goal
-use Rattle.reduction.proofs.row_reduce_with_transform.Goals.{After-lesser-k}
+use Rattle.reduction.proofs.row_reduce_with_transform.Goals.{After-min-k}
 
 -- as many rows as all three have, at most as many as a row has columns
-least : (c : goal.After-lesser-k) → let s = c.args in c.lesser-k.result ≡ min width (min (length s.pivots.now) (min (length (rows_in_lem s.a.now)) (length (rows_in_lem s.t.now))))
-least c = omega (arith, c.lesser-k.ensures, c.lesser.ensures, c.lesser-both.ensures, c.rows_in-2.ensures, c.rows_in.ensures)
-
-pub slice_bounds-reduce-end-2 : goal.slice_bounds-reduce-end-2
-slice_bounds-reduce-end-2 c =
-    let to = c.start-to in
-    part_words c.lesser-k.result to.result c.args.a.now to.ensures
-
-pub slice_bounds-reduce-end-4 : goal.slice_bounds-reduce-end-4
-slice_bounds-reduce-end-4 c =
-    let until = c.start-until in
-    part_words c.lesser-k.result until.result c.args.t.now until.ensures
+least : (c : goal.After-min-k) → let s = c.args in c.min-k.result ≡ min width (min (length s.pivots.now) (min (length (rows_in_lem s.a.now)) (length (rows_in_lem s.t.now))))
+least c = omega (arith, c.min-k.ensures, c.min.ensures, c.min-both.ensures, c.rows_in-2.ensures, c.rows_in.ensures)
 
 pub reduce-requires : goal.reduce-requires
 reduce-requires c =
     let s = c.args in
-    let k = c.lesser-k.result in
-    let e = least (goal.at.reduce-requires c).After-lesser-k in
+    let k = c.min-k.result in
+    let e = least (goal.at.reduce-requires c).After-min-k in
     let sizeA = part_rows k c.start-to.result s.a.now c.start-to.ensures (omega (arith, e)) in
     let sizeT = part_rows k c.start-until.result s.t.now c.start-until.ensures (omega (arith, e)) in
     (sizeA ∙ sym sizeT, omega (arith, sizeA, e), omega (arith, sizeA, e))
@@ -44,8 +34,8 @@ returns c =
     let A = rows_in_lem s.a.now in
     let T = rows_in_lem s.t.now in
     let ps = s.pivots.now in
-    let k = c.lesser-k.result in
-    let e = least (goal.at.returns c).After-lesser-k in
+    let k = c.min-k.result in
+    let e = least (goal.at.returns c).After-min-k in
     let to = c.start-to in
     let until = c.start-until in
     let o = c.reduce in

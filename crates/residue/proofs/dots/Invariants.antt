@@ -1,6 +1,5 @@
 -- `dots` sets column after column, by `dots_next`.
 use mathlib.Core.Path.{◌≡◌}
-use Prim.Native.Nat.{◌-◌, ◌≤◌}
 use lib.ListN.{take}
 use Rattle.binar.specs.Rows.{val}
 use Rattle.blocks.specs.Matrices.{dots}
@@ -8,7 +7,4 @@ use Rattle.blocks.specs.Words.{rows_in_lem}
 use Rattle.residue.proofs.dots.Given as goal
 
 abbrev pub invariant-loop-i : goal.invariant-loop-i
-invariant-loop-i l = (l.i ≤ l.m) × (l.m ≡ l.k) × (val l.s ≡ dots (take l.i (rows_in_lem l.w)) (val l.v))
-
-abbrev pub decreases-loop-i : goal.decreases-loop-i
-decreases-loop-i l = l.m - l.i
+invariant-loop-i l = val l.s ≡ dots (take l.i (rows_in_lem l.w)) (val l.v)

@@ -1,9 +1,9 @@
 -- `residue_core` lends local words that have room for the rows of an action.
-use mathlib.Core.Path.{refl, ap, ◌∙◌, ◌≡◌, sym}
+use mathlib.Core.Path.{ap, ◌∙◌, ◌≡◌, sym}
 use Prim.Native.Nat.{ℕ, ◌+◌, ◌≤◌}
 use Rattle.symplectic.specs.Sizes.{most_rows}
 use Rattle.actions.proofs.Arrays.{qubits_le, qubits_capped}
-use Rattle.reduction.proofs.Words.{lent_room, lent_count, lent_rows}
+use Rattle.reduction.proofs.Words.{lent_rows}
 use native.Mathlib.Omega.{arith}
 use Rattle.actions.specs.Actions.{qubits}
 use Rattle.residue.proofs.residue_core.Goals as goal
@@ -16,43 +16,11 @@ qubits_is c = c.capped-n.ensures ∙ sym (qubits_capped c.args.a)
 fits : (c : goal.After-capped-n) → c.capped-n.result + c.capped-n.result ≤ most_rows
 fits c = omega (arith, qubits_is c, qubits_le c.args.a)
 
-pub slice_bounds-start-end : goal.slice_bounds-start-end
-slice_bounds-start-end c = refl
-
 pub overflow_add-n : goal.overflow_add-n
 overflow_add-n c = omega (arith, fits (goal.at.overflow_add-n c).After-capped-n)
-
-pub slice_bounds-rows-end : goal.slice_bounds-rows-end
-slice_bounds-rows-end c =
-    let n = c.capped-n.result in
-    lent_room (n + n) most_rows c.start-to.result c.start-to.ensures
-
-pub slice_bounds-residue_core_in-end : goal.slice_bounds-residue_core_in-end
-slice_bounds-residue_core_in-end c =
-    let n = c.capped-n.result in
-    lent_count (n + n) most_rows c.start-to.result c.start-to.ensures
-
-pub slice_bounds-transform-end : goal.slice_bounds-transform-end
-slice_bounds-transform-end c =
-    let n = c.capped-n.result in
-    lent_room (n + n) most_rows c.start-to.result c.start-to.ensures
-
-pub slice_bounds-residue_core_in-end-2 : goal.slice_bounds-residue_core_in-end-2
-slice_bounds-residue_core_in-end-2 c =
-    let n = c.capped-n.result in
-    lent_count (n + n) most_rows c.start-to.result c.start-to.ensures
 
 pub residue_core_in-requires : goal.residue_core_in-requires
 residue_core_in-requires c =
     let to = c.start-to in
     let long = lent_rows (c.capped-n.result + c.capped-n.result) most_rows to.result to.ensures (fits (goal.at.residue_core_in-requires c).After-capped-n) ∙ ap (λ (m : ℕ). m + m) (qubits_is (goal.at.residue_core_in-requires c).After-capped-n) in
     (long, long)
-
-pub shape_of-basis : goal.shape_of-basis
-shape_of-basis c = c.residue_core_in.auto.basis
-
-pub shape_of-core : goal.shape_of-core
-shape_of-core c = c.residue_core_in.auto.core
-
-pub returns : goal.returns
-returns c = c.residue_core_in.ensures

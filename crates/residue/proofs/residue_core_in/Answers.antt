@@ -1,5 +1,5 @@
 -- `residue_core_in` reduces the residue, all of it by `reduced_whole`, and puts the front of what is left, by `basis_end` and `core_end`.
-use mathlib.Core.Path.{◌≡◌, refl, sym, ap, ◌∙◌}
+use mathlib.Core.Path.{◌≡◌, sym, ap, ◌∙◌}
 use mathlib.Core.List.{List}
 use Prim.Native.Nat.{ℕ, ◌+◌, ◌≤◌, min}
 use lib.ListN.{length, replicate, length-replicate}
@@ -51,9 +51,6 @@ done c =
 
 pub overflow_add-n : goal.overflow_add-n
 overflow_add-n c = omega (arith, qubits_is (goal.at.overflow_add-n c).After-capped-n, qubits_le c.args.a)
-
-pub slice_bounds-row_reduce_with_transform-end : goal.slice_bounds-row_reduce_with_transform-end
-slice_bounds-row_reduce_with_transform-end c = refl
 
 pub put_core-requires : goal.put_core-requires
 put_core-requires c =

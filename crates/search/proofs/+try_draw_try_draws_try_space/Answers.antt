@@ -27,11 +27,12 @@ use Rattle.search.specs.inner.Levels.{levels, found_in}
 use Rattle.triangular.specs.declared.Ending.{Ending}
 use Rattle.search.proofs.LentLevels.{levels_least, found_none, back_rest, front_get, behind_front, front_less, found_kept}
 use Rattle.search.proofs.Draws.{Drawn, Moved, room_g, gram_front_kept, gram_kept, rest, rest_gram, rest_small, room_b, basis_kept, within_b, child}
-use Rattle.search.proofs.Reported.{grew_none, empty_reports, plain_alternating, plain_reports, grew_on, noted_grew, noted_kept, held_reports, alternating_reports, kept_reports, failed_reports, found_not_failed}
+use Rattle.search.proofs.Reported.{grew_none, empty_reports, plain_alternating, plain_reports, grew_on, noted_grew, noted_kept, held_reports, alternating_reports, kept_reports, failed_reports, found_not_failed, is_failed, not_failed}
 use borrow.Author.Rules.{rules}
-use borrow.Author.Tests.{ltb-true, ltb-false}
+use borrow.Author.Tests.{ltb-true, ltb-false, not-true, not-false}
 use Rattle.blocks.proofs.Products.{times_zero}
 use Rattle.spaces.proofs.Levels.{sums_front, sums_at}
+use Rattle.binar.proofs.Orders.{rows_lt}
 use Rattle.search.proofs.Drawing.{ones_last, next_is, next_column, next_drawn}
 use mathlib.Core.Logic.{◌⊎◌, inl, inr}
 use lib.Seq.{length-take-le}
@@ -42,11 +43,11 @@ use Rattle.search.specs.declared.Asked.{Asked}
 use Rattle.search.specs.declared.Asked.TheVariants.{Held, Alternating, Open}
 use Rattle.search.specs.inner.Asked.{Known}
 use Rattle.search.proofs.+try_draw_try_draws_try_space.Goals as goal
-use Rattle.search.proofs.+try_draw_try_draws_try_space.Goals.{try_draw-After-is_alternating, try_draw-After-start-b, try_draws-After-dot, try_draws-After-low_ones-last, try_draws-After-next-c, try_draws-After-sum-g, try_draws-After-try_draw-o, try_space-After-ask-asked, try_space-After-try_draws-o}
+use Rattle.search.proofs.+try_draw_try_draws_try_space.Goals.{try_draw-After-is_alternating, try_draw-After-start-b, try_draws-After-dot, try_draws-After-low_ones-last, try_draws-After-next-c, try_draws-After-bitxor_assign, try_draws-After-try_draw-o, try_space-After-ask, try_space-After-try_draws-o}
 use Rattle.search.proofs.+try_draw_try_draws_try_space.Answers.Places.{before, ahead, next_value, column, members, summed, space_in, summed_long, sum_is, tested}
 use Rattle.search.proofs.+try_draw_try_draws_try_space.Answers.Turns.{x, accepted, draws_came, grown, basis_still}
 use Rattle.search.proofs.+try_draw_try_draws_try_space.Answers.Passed.{draw_drawn, rest_g, back_g, more, tail_b, back_b, rooms, left, draw_stands, told, short, tests}
-use Rattle.search.proofs.+try_draw_try_draws_try_space.Answers.Spaces.{not_failed, space_d, B, known, size, fits, in_basis, open_is, space_came, in_draws}
+use Rattle.search.proofs.+try_draw_try_draws_try_space.Answers.Spaces.{space_d, B, known, size, fits, in_basis, open_is, space_came, in_draws}
 
 -- ---- before the draws, and behind them
 
@@ -78,7 +79,7 @@ try_draws-returns t c =
       λ e. at.invariant.5,
       λ E M sp ca.
           going_end E (room_in s.memory.now) s.budget s.d (members t (goal.at.try_draws-returns t c).After-low_ones-last) s.looks M (val c.low_ones-last.result) (val at.c) at.spent at.memory at.kept (at.invariant.9 E M (space_in t (goal.at.try_draws-returns t c).After-low_ones-last E sp) ca)
-          (ltb-false (val at.c) (val c.low_ones-last.result) (sym c.less.ensures ∙ c.loop-last-test.false)) at.invariant.1 _,
+          (ltb-false (val at.c) (val c.low_ones-last.result) (sym (c.lt.ensures ∙ rows_lt at.c c.low_ones-last.result) ∙ c.loop-last-test.false)) at.invariant.1 _,
     )
 
 pub try_draws-returns-then-spent-budget : goal.try_draws-returns-then-spent-budget
@@ -121,7 +122,7 @@ try_draws-loop-last-preserved-in-Failed t c =
       o.auto.memory ∙ at.invariant.4,
       basis_still t (goal.at.try_draws-loop-last-preserved-in-Failed t c).After-try_draw-o,
       o.ensures.3 ∙ at.invariant.6,
-      sum_is t (goal.at.try_draws-loop-last-preserved-in-Failed t c).After-sum-g,
+      sum_is t (goal.at.try_draws-loop-last-preserved-in-Failed t c).After-bitxor_assign,
       grown t (goal.at.try_draws-loop-last-preserved-in-Failed t c).After-try_draw-o,
       λ E M sp ca.
           going_failed E (room_in s.memory.now) s.budget s.d (members t (goal.at.try_draws-loop-last-preserved-in-Failed t c).After-low_ones-last) s.looks M (val c.low_ones-last.result) (val at.c) at.spent at.memory at.kept (at.invariant.9 E M sp ca) (ahead t (goal.at.try_draws-loop-last-preserved-in-Failed t c).After-next-c) (val c.next-c.result) (next_value t (goal.at.try_draws-loop-last-preserved-in-Failed t c).After-next-c)
@@ -176,7 +177,7 @@ try_draws-loop-last-preserved t c =
       at.invariant.4,
       at.invariant.5,
       at.invariant.6,
-      sum_is t (goal.at.try_draws-loop-last-preserved t c).After-sum-g,
+      sum_is t (goal.at.try_draws-loop-last-preserved t c).After-bitxor_assign,
       at.invariant.8,
       λ E M sp ca.
           going_left E (room_in s.memory.now) s.budget s.d (members t (goal.at.try_draws-loop-last-preserved t c).After-low_ones-last) s.looks M (val c.low_ones-last.result) (val at.c) at.spent at.memory at.kept (at.invariant.9 E M sp ca) (ahead t (goal.at.try_draws-loop-last-preserved t c).After-next-c) (val c.next-c.result) (next_value t (goal.at.try_draws-loop-last-preserved t c).After-next-c)
@@ -264,84 +265,85 @@ try_draw-returns t c =
           a.result.ending a.result.looks (found_in (s.d - 1) (rows_in_lem a.new.basis)) a.new.memory a.result.used (a.ensures.3 E M sp' ca)),
     )
 
-pub try_space-ask-asked-requires : goal.try_space-ask-asked-requires
-try_space-ask-asked-requires t c =
+pub try_space-ask-requires : goal.try_space-ask-requires
+try_space-ask-requires t c =
     (c.requires.0, c.requires.1, omega (arith, levels_least c.args.d, c.requires.2), omega (arith, levels_least c.args.d, c.requires.3), c.requires.5)
 
 -- it is held
 pub try_space-returns-in-Held : goal.try_space-returns-in-Held
 try_space-returns-in-Held t c =
     let ws = c.args.memory.now in
-    let told : c.ask-asked.result ≡ Held = search (rules, c.in-Held.is) in (
+    let told : c.ask.result ≡ Held = search (rules, c.in-Held.is) in (
       c.requires.4,
       grew_none ws c.args.used c.requires.5,
       λ E M sp ca.
-          held_reports (form E) (room_in ws) c.args.budget c.args.looks (B t (goal.at.try_space-returns-in-Held t c).After-ask-asked) M ca.1 c.requires.4 c.args.d c.requires.0 (known t (goal.at.try_space-returns-in-Held t c).After-ask-asked Held told E M sp ca)
-          (found_in c.args.d (rows_in_lem c.ask-asked.new.basis)) ws c.args.used ca.0,
+          held_reports (form E) (room_in ws) c.args.budget c.args.looks (B t (goal.at.try_space-returns-in-Held t c).After-ask) M ca.1 c.requires.4 c.args.d c.requires.0 (known t (goal.at.try_space-returns-in-Held t c).After-ask Held told E M sp ca)
+          (found_in c.args.d (rows_in_lem c.ask.new.basis)) ws c.args.used ca.0,
     )
 
 pub try_space-note-requires : goal.try_space-note-requires
-try_space-note-requires t c = (c.requires.5, c.requires.1, in_basis t (goal.at.try_space-note-requires t c).After-ask-asked)
+try_space-note-requires t c = (c.requires.5, c.requires.1, in_basis t (goal.at.try_space-note-requires t c).After-ask)
 
 -- it is alternating
 pub try_space-returns-in-Alternating : goal.try_space-returns-in-Alternating
 try_space-returns-in-Alternating t c =
     let ws = c.args.memory.now in
     let o = c.note in
-    let told : c.ask-asked.result ≡ Alternating = search (rules, c.in-Alternating.is) in
-    let rs = entry_basis width (B t (goal.at.try_space-returns-in-Alternating t c).After-ask-asked) in
-    let put = o.ensures.1 ∙ ap (λ l. take c.args.used ws ++ entered l (drop c.args.used ws)) c.ask-asked.ensures.2 in (
+    let told : c.ask.result ≡ Alternating = search (rules, c.in-Alternating.is) in
+    let rs = entry_basis width (B t (goal.at.try_space-returns-in-Alternating t c).After-ask) in
+    let put = o.ensures.1 ∙ ap (λ l. take c.args.used ws ++ entered l (drop c.args.used ws)) c.ask.ensures.2 in (
       c.requires.4,
       noted_grew ws c.args.used c.args.d rs o.new.memory o.result c.requires.5 put o.ensures.0,
       λ E M sp ca.
-          let k = known t (goal.at.try_space-returns-in-Alternating t c).After-ask-asked Alternating told E M sp ca in
-          alternating_reports (form E) (room_in ws) c.args.budget c.args.looks (B t (goal.at.try_space-returns-in-Alternating t c).After-ask-asked) M ca.1 c.requires.4 c.args.d c.requires.0 k.0 k.1
-          (found_in c.args.d (rows_in_lem c.ask-asked.new.basis)) o.new.memory o.result
-          (noted_kept ws c.args.used c.args.d rs o.new.memory o.result c.requires.5 put o.ensures.0 M c.args.looks ca.0 (size t (goal.at.try_space-returns-in-Alternating t c).After-ask-asked) (fits t (goal.at.try_space-returns-in-Alternating t c).After-ask-asked sp.1)),
+          let k = known t (goal.at.try_space-returns-in-Alternating t c).After-ask Alternating told E M sp ca in
+          alternating_reports (form E) (room_in ws) c.args.budget c.args.looks (B t (goal.at.try_space-returns-in-Alternating t c).After-ask) M ca.1 c.requires.4 c.args.d c.requires.0 k.0 k.1
+          (found_in c.args.d (rows_in_lem c.ask.new.basis)) o.new.memory o.result
+          (noted_kept ws c.args.used c.args.d rs o.new.memory o.result c.requires.5 put o.ensures.0 M c.args.looks ca.0 (size t (goal.at.try_space-returns-in-Alternating t c).After-ask) (fits t (goal.at.try_space-returns-in-Alternating t c).After-ask sp.1)),
     )
 
 pub try_space-try_draws-o-requires : goal.try_space-try_draws-o-requires
 try_space-try_draws-o-requires t c =
-    let o = c.ask-asked in
+    let o = c.ask in
     let b_same = lent_same o.new.basis c.args.basis.now o.auto.basis in
     let g_same = lent_same o.new.gram c.args.gram.now o.auto.gram in
     (omega (arith, c.decreases), (c.requires.0, c.requires.1, omega (arith, b_same, c.requires.2), omega (arith, g_same, c.requires.3), c.requires.4, c.requires.5))
 
-pub try_space-note-requires-in-Failed : goal.try_space-note-requires-in-Failed
-try_space-note-requires-in-Failed t c = (c.try_draws-o.ensures.1.1, c.requires.1, in_draws t (goal.at.try_space-note-requires-in-Failed t c).After-try_draws-o)
+pub try_space-note-requires-2 : goal.try_space-note-requires-2
+try_space-note-requires-2 t c = (c.try_draws-o.ensures.1.1, c.requires.1, in_draws t (goal.at.try_space-note-requires-2 t c).After-try_draws-o)
 
--- they failed: it is entered now
-pub try_space-returns-in-Failed : goal.try_space-returns-in-Failed
-try_space-returns-in-Failed t c =
+-- they failed: it is entered then
+pub try_space-returns : goal.try_space-returns
+try_space-returns t c =
     let a = c.try_draws-o in
-    let o = c.note-in-Failed in
+    let o = c.note-2 in
     let ws = a.new.memory in
     let used = a.result.used in
     let space_d = c.args.d in
-    let rs = entry_basis width (B t (goal.at.try_space-returns-in-Failed t c).After-ask-asked) in
-    let fails : a.result.ending ≡ Failed = search (rules, c.in-Failed.is) in
-    let still = behind_front space_d space_d (rows_in_lem a.new.basis) (rows_in_lem c.ask-asked.new.basis) (omega (arith, in_draws t (goal.at.try_space-returns-in-Failed t c).After-try_draws-o)) (omega (arith, in_basis t (goal.at.try_space-returns-in-Failed t c).After-ask-asked)) (a.ensures.2 fails) ∙ c.ask-asked.ensures.2 in
+    let rs = entry_basis width (B t (goal.at.try_space-returns t c).After-ask) in
+    let fails : a.result.ending ≡ Failed = is_failed a.result.ending (not-false _ (sym c.ne.ensures ∙ c.if-ne.false)) in
+    let still = behind_front space_d space_d (rows_in_lem a.new.basis) (rows_in_lem c.ask.new.basis) (omega (arith, in_draws t (goal.at.try_space-returns t c).After-try_draws-o)) (omega (arith, in_basis t (goal.at.try_space-returns t c).After-ask)) (a.ensures.2 fails) ∙ c.ask.ensures.2 in
     let put = o.ensures.1 ∙ ap (λ l. take used ws ++ entered l (drop used ws)) still in
     let rooms : room_in ws ≡ room_in c.args.memory.now = room_same ws c.args.memory.now a.auto.memory in (
       a.ensures.0,
       grew_on c.args.memory.now c.args.used ws used o.new.memory o.result a.ensures.1 (noted_grew ws used space_d rs o.new.memory o.result a.ensures.1.1 put o.ensures.0),
       λ E M sp ca.
-          let k = known t (goal.at.try_space-returns-in-Failed t c).After-ask-asked Open (open_is t (goal.at.try_space-returns-in-Failed t c).After-try_draws-o) E M sp ca in
-          let N = known_within c.args.budget (draws_with (form E) width (room_in c.args.memory.now) (search_with (form E) width (room_in c.args.memory.now) (space_d - 1)) (B t (goal.at.try_space-returns-in-Failed t c).After-ask-asked) (2 ^ space_d - 1) 1 c.args.looks M).memory in
-          failed_reports (form E) (room_in c.args.memory.now) c.args.budget c.args.looks (B t (goal.at.try_space-returns-in-Failed t c).After-ask-asked) M ca.1 c.requires.4 space_d c.requires.0 k.0 k.1
-          a.result.ending a.result.looks (found_in space_d (rows_in_lem a.new.basis)) ws used (space_came t (goal.at.try_space-returns-in-Failed t c).After-try_draws-o E M sp ca) fails (found_in space_d (rows_in_lem a.new.basis)) o.new.memory o.result
+          let k = known t (goal.at.try_space-returns t c).After-ask Open (open_is t (goal.at.try_space-returns t c).After-try_draws-o) E M sp ca in
+          let N = known_within c.args.budget (draws_with (form E) width (room_in c.args.memory.now) (search_with (form E) width (room_in c.args.memory.now) (space_d - 1)) (B t (goal.at.try_space-returns t c).After-ask) (2 ^ space_d - 1) 1 c.args.looks M).memory in
+          subst (λ v. Reports c.args.budget (search_with (form E) width (room_in c.args.memory.now) space_d (B t (goal.at.try_space-returns t c).After-ask) c.args.looks M) v a.result.looks (found_in space_d (rows_in_lem a.new.basis)) o.new.memory o.result) (sym fails)
+          (failed_reports (form E) (room_in c.args.memory.now) c.args.budget c.args.looks (B t (goal.at.try_space-returns t c).After-ask) M ca.1 c.requires.4 space_d c.requires.0 k.0 k.1
+          a.result.ending a.result.looks (found_in space_d (rows_in_lem a.new.basis)) ws used (space_came t (goal.at.try_space-returns t c).After-try_draws-o E M sp ca) fails (found_in space_d (rows_in_lem a.new.basis)) o.new.memory o.result
           (subst (λ n. Kept o.new.memory o.result (enter n (record { dimension = space_d; basis = rs; looks = a.result.looks }) N)) rooms
-          (noted_kept ws used space_d rs o.new.memory o.result a.ensures.1.1 put o.ensures.0 N a.result.looks (space_came t (goal.at.try_space-returns-in-Failed t c).After-try_draws-o E M sp ca).1 (size t (goal.at.try_space-returns-in-Failed t c).After-ask-asked) (fits t (goal.at.try_space-returns-in-Failed t c).After-ask-asked sp.1))),
+          (noted_kept ws used space_d rs o.new.memory o.result a.ensures.1.1 put o.ensures.0 N a.result.looks (space_came t (goal.at.try_space-returns t c).After-try_draws-o E M sp ca).1 (size t (goal.at.try_space-returns t c).After-ask) (fits t (goal.at.try_space-returns t c).After-ask sp.1)))),
     )
 
 -- found or spent
-pub try_space-returns-in_default : goal.try_space-returns-in_default
-try_space-returns-in_default t c =
+pub try_space-returns-then-ne : goal.try_space-returns-then-ne
+try_space-returns-then-ne t c =
     let a = c.try_draws-o in (
       a.ensures.0,
       a.ensures.1,
       λ E M sp ca.
-          let k = known t (goal.at.try_space-returns-in_default t c).After-ask-asked Open (open_is t (goal.at.try_space-returns-in_default t c).After-try_draws-o) E M sp ca in
-          kept_reports (form E) (room_in c.args.memory.now) c.args.budget c.args.looks (B t (goal.at.try_space-returns-in_default t c).After-ask-asked) M ca.1 c.requires.4 c.args.d c.requires.0 k.0 k.1
-          a.result.ending a.result.looks (found_in c.args.d (rows_in_lem a.new.basis)) a.new.memory a.result.used (space_came t (goal.at.try_space-returns-in_default t c).After-try_draws-o E M sp ca) (not_failed a.result.ending c.in_default.not-Failed),
+          let k = known t (goal.at.try_space-returns-then-ne t c).After-ask Open (open_is t (goal.at.try_space-returns-then-ne t c).After-try_draws-o) E M sp ca in
+          kept_reports (form E) (room_in c.args.memory.now) c.args.budget c.args.looks (B t (goal.at.try_space-returns-then-ne t c).After-ask) M ca.1 c.requires.4 c.args.d c.requires.0 k.0 k.1
+          a.result.ending a.result.looks (found_in c.args.d (rows_in_lem a.new.basis)) a.new.memory a.result.used (space_came t (goal.at.try_space-returns-then-ne t c).After-try_draws-o E M sp ca) (not_failed a.result.ending (not-true _ (sym c.ne.ensures ∙ c.if-ne.true))),
     )

@@ -1,6 +1,6 @@
 -- `searched` begins with all rows, fails or searches, and collects what was found.
 use mathlib.Core.Path.{◌≡◌, refl, sym, ap, ◌∙◌, subst}
-use mathlib.Core.Logic.{◌⊎◌, inl, inr}
+use mathlib.Core.Logic.{◌⊎◌}
 use mathlib.Core.List.{List, []}
 use Prim.Native.Nat.{ℕ, ◌^◌, ◌<◌, zero-le}
 use native.Mathlib.Nat.{pos_of_ne-zero, lt_of_lt_of_le}
@@ -29,8 +29,7 @@ use Rattle.spaces.specs.Levels.{gram_of}
 use Rattle.search.specs.inner.Levels.{found_in}
 use Rattle.search.specs.inner.Reports.{Space, Grew, Reports}
 use Rattle.search.proofs.LentLevels.{found_none}
-use Rattle.search.proofs.Reported.{grew_none, empty_reports}
-use borrow.Author.Rules.{rules}
+use Rattle.search.proofs.Reported.{grew_none, empty_reports, is_found, not_found}
 use Rattle.search.proofs.searched.Goals as goal
 use Rattle.search.proofs.searched.Goals.{After-begin, After-try_all-o}
 
@@ -81,15 +80,6 @@ came c =
     let o = c.try_all-o in
     told_whole (goal.at.After-try_all-o c).After-begin o.result.ending o.result.looks (found_in c.args.k (rows_in_lem o.new.basis)) o.new.memory o.result.used (o.ensures.1 (E (goal.at.After-try_all-o c).After-begin) (space (goal.at.After-try_all-o c).After-begin))
 
-pub begin-requires : goal.begin-requires
-begin-requires c = c.requires
-
-pub shape_of-basis-then-k-eq0 : goal.shape_of-basis-then-k-eq0
-shape_of-basis-then-k-eq0 c = c.begin.auto.basis
-
-pub shape_of-gram-then-k-eq0 : goal.shape_of-gram-then-k-eq0
-shape_of-gram-then-k-eq0 c = c.begin.auto.gram
-
 -- no rows: the empty space
 pub returns-then-k-eq0 : goal.returns-then-k-eq0
 returns-then-k-eq0 c =
@@ -117,71 +107,28 @@ collected-requires c =
     let b = c.begin in
     (c.requires.0, omega (arith, lent_same o.new.basis c.args.basis.now (o.auto.basis ∙ b.auto.basis), c.requires.2))
 
-pub shape_of-basis-in-Found : goal.shape_of-basis-in-Found
-shape_of-basis-in-Found c = c.try_all-o.auto.basis ∙ c.begin.auto.basis
-
-pub shape_of-basis-in-Failed : goal.shape_of-basis-in-Failed
-shape_of-basis-in-Failed c = c.try_all-o.auto.basis ∙ c.begin.auto.basis
-
-pub shape_of-basis-in-Spent : goal.shape_of-basis-in-Spent
-shape_of-basis-in-Spent c = c.try_all-o.auto.basis ∙ c.begin.auto.basis
-
-pub shape_of-gram-in-Found : goal.shape_of-gram-in-Found
-shape_of-gram-in-Found c = c.try_all-o.auto.gram ∙ c.begin.auto.gram
-
-pub shape_of-gram-in-Failed : goal.shape_of-gram-in-Failed
-shape_of-gram-in-Failed c = c.try_all-o.auto.gram ∙ c.begin.auto.gram
-
-pub shape_of-gram-in-Spent : goal.shape_of-gram-in-Spent
-shape_of-gram-in-Spent c = c.try_all-o.auto.gram ∙ c.begin.auto.gram
-
-pub shape_of-memory-in-Found : goal.shape_of-memory-in-Found
-shape_of-memory-in-Found c = c.try_all-o.auto.memory
-
-pub shape_of-memory-in-Failed : goal.shape_of-memory-in-Failed
-shape_of-memory-in-Failed c = c.try_all-o.auto.memory
-
-pub shape_of-memory-in-Spent : goal.shape_of-memory-in-Spent
-shape_of-memory-in-Spent c = c.try_all-o.auto.memory
-
-pub shape_of-list-in-Found : goal.shape_of-list-in-Found
-shape_of-list-in-Found c = c.collected.auto.list
-
-pub returns-in-Found : goal.returns-in-Found
-returns-in-Found c =
+pub returns-then-eq : goal.returns-then-eq
+returns-then-eq c =
     let s = c.args in
     let o = c.try_all-o in
-    let told : o.result.ending ≡ Found = search (rules, c.in-Found.is) in
+    let told : o.result.ending ≡ Found = is_found o.result.ending (sym c.eq.ensures ∙ c.if-eq.true) in
     let l = found_in s.k (rows_in_lem o.new.basis) in
-    let r = searched_core (E (goal.at.returns-in-Found c).After-begin) (room (goal.at.returns-in-Found c).After-begin) in
-    let t = subst (λ v. Reports s.budget r v o.result.looks l o.new.memory o.result.used) told (came (goal.at.returns-in-Found c).After-try_all-o) in record {
-      answered = own s.budget r Found o.result.looks l s.memory.now o.new.memory o.result.used t o.auto.memory o.ensures.0;
-      left = c.collected.ensures ∙ ap (λ x. over x (rows_in_lem s.list.now)) (sym (found_basis o.result.looks l (budgeted s.budget r.outcome) Found t.0 refl));
-      remembered = laid_over s.budget r Found o.result.looks l s.memory.now o.new.memory o.result.used t o.auto.memory o.ensures.0;
+    let r = searched_core (E (goal.at.returns-then-eq c).After-begin) (room (goal.at.returns-then-eq c).After-begin) in
+    let t = came (goal.at.returns-then-eq c).After-try_all-o in record {
+      answered = own s.budget r o.result.ending o.result.looks l s.memory.now o.new.memory o.result.used t o.auto.memory o.ensures.0;
+      left = c.collected.ensures ∙ ap (λ x. over x (rows_in_lem s.list.now)) (sym (found_basis o.result.looks l (budgeted s.budget r.outcome) o.result.ending t.0 told));
+      remembered = laid_over s.budget r o.result.ending o.result.looks l s.memory.now o.new.memory o.result.used t o.auto.memory o.ensures.0;
     }
 
-pub returns-in-Failed : goal.returns-in-Failed
-returns-in-Failed c =
+pub returns-else-eq : goal.returns-else-eq
+returns-else-eq c =
     let s = c.args in
     let o = c.try_all-o in
-    let told : o.result.ending ≡ Failed = search (rules, c.in-Failed.is) in
+    let told = not_found o.result.ending (sym c.eq.ensures ∙ c.if-eq.false) in
     let l = found_in s.k (rows_in_lem o.new.basis) in
-    let r = searched_core (E (goal.at.returns-in-Failed c).After-begin) (room (goal.at.returns-in-Failed c).After-begin) in
-    let t = subst (λ v. Reports s.budget r v o.result.looks l o.new.memory o.result.used) told (came (goal.at.returns-in-Failed c).After-try_all-o) in record {
-      answered = own s.budget r Failed o.result.looks l s.memory.now o.new.memory o.result.used t o.auto.memory o.ensures.0;
-      left = none_put s.budget r Failed o.result.looks l s.memory.now o.new.memory o.result.used t o.auto.memory o.ensures.0 (inl refl) (rows_in_lem s.list.now);
-      remembered = laid_over s.budget r Failed o.result.looks l s.memory.now o.new.memory o.result.used t o.auto.memory o.ensures.0;
-    }
-
-pub returns-in-Spent : goal.returns-in-Spent
-returns-in-Spent c =
-    let s = c.args in
-    let o = c.try_all-o in
-    let told : o.result.ending ≡ Spent = search (rules, c.in-Spent.is) in
-    let l = found_in s.k (rows_in_lem o.new.basis) in
-    let r = searched_core (E (goal.at.returns-in-Spent c).After-begin) (room (goal.at.returns-in-Spent c).After-begin) in
-    let t = subst (λ v. Reports s.budget r v o.result.looks l o.new.memory o.result.used) told (came (goal.at.returns-in-Spent c).After-try_all-o) in record {
-      answered = own s.budget r Spent o.result.looks l s.memory.now o.new.memory o.result.used t o.auto.memory o.ensures.0;
-      left = none_put s.budget r Spent o.result.looks l s.memory.now o.new.memory o.result.used t o.auto.memory o.ensures.0 (inr refl) (rows_in_lem s.list.now);
-      remembered = laid_over s.budget r Spent o.result.looks l s.memory.now o.new.memory o.result.used t o.auto.memory o.ensures.0;
+    let r = searched_core (E (goal.at.returns-else-eq c).After-begin) (room (goal.at.returns-else-eq c).After-begin) in
+    let t = came (goal.at.returns-else-eq c).After-try_all-o in record {
+      answered = own s.budget r o.result.ending o.result.looks l s.memory.now o.new.memory o.result.used t o.auto.memory o.ensures.0;
+      left = none_put s.budget r o.result.ending o.result.looks l s.memory.now o.new.memory o.result.used t o.auto.memory o.ensures.0 told (rows_in_lem s.list.now);
+      remembered = laid_over s.budget r o.result.ending o.result.looks l s.memory.now o.new.memory o.result.used t o.auto.memory o.ensures.0;
     }

@@ -14,25 +14,10 @@ use Rattle.search.proofs.LentLevels.{levels_least}
 use Rattle.search.proofs.Reported.{grew_none, plain_alternating, plain_reports}
 use Rattle.search.proofs.try_all.Goals as goal
 
-pub try_space-requires : goal.try_space-requires
-try_space-requires c = (c.requires.0, c.requires.1, c.requires.2, c.requires.3, zero-le, zero-le)
-
-pub shape_of-basis-then-memory-ge-ENTRY : goal.shape_of-basis-then-memory-ge-ENTRY
-shape_of-basis-then-memory-ge-ENTRY c = c.try_space.auto.basis
-
-pub shape_of-gram-then-memory-ge-ENTRY : goal.shape_of-gram-then-memory-ge-ENTRY
-shape_of-gram-then-memory-ge-ENTRY c = c.try_space.auto.gram
-
-pub shape_of-memory-then-memory-ge-ENTRY : goal.shape_of-memory-then-memory-ge-ENTRY
-shape_of-memory-then-memory-ge-ENTRY c = c.try_space.auto.memory
-
 pub returns-then-memory-ge-ENTRY : goal.returns-then-memory-ge-ENTRY
 returns-then-memory-ge-ENTRY c =
     let a = c.try_space in
     (a.ensures.1, λ E sp. a.ensures.2 E [] sp (kept_none c.args.memory.now, tt))
-
-pub shape_of-gram-then-is_alternating : goal.shape_of-gram-then-is_alternating
-shape_of-gram-then-is_alternating c = refl
 
 pub returns-then-is_alternating : goal.returns-then-is_alternating
 returns-then-is_alternating c =
@@ -45,18 +30,6 @@ returns-then-is_alternating c =
           plain_alternating (form E) (room_in ws) c.args.budget 0 B [] tt zero-le c.args.k c.requires.0 refl (kept_no_room_enter ws short)
           (tested_form c.args.k (rows_in_lem c.args.gram.now) (omega (arith, levels_least c.args.k, c.requires.3)) E B sp.0 c.requires.0 o.result o.ensures ∙ c.if-is_alternating.true) (found_in c.args.k (rows_in_lem c.args.basis.now)) ws 0 (kept_none ws),
     )
-
-pub try_draws-requires : goal.try_draws-requires
-try_draws-requires c = (c.requires.0, c.requires.1, c.requires.2, c.requires.3, zero-le, zero-le)
-
-pub shape_of-basis : goal.shape_of-basis
-shape_of-basis c = c.try_draws.auto.basis
-
-pub shape_of-gram : goal.shape_of-gram
-shape_of-gram c = c.try_draws.auto.gram
-
-pub shape_of-memory : goal.shape_of-memory
-shape_of-memory c = c.try_draws.auto.memory
 
 pub returns : goal.returns
 returns c =

@@ -1,6 +1,6 @@
 -- `clifford_to_transvections_self_inverse` refuses by the first question that is answered no, by `met_early`, `met_short` and `met_other`; else it lays the list that
 -- the residue of the action is taken apart into, by `commuting_list` and `met_answer`.
-use mathlib.Core.Path.{◌≡◌, refl, sym, ap, ap₂, ◌∙◌, subst, subst₂}
+use mathlib.Core.Path.{◌≡◌, sym, ap, ap₂, ◌∙◌, subst₂}
 use mathlib.Core.Bool.{true}
 use mathlib.Core.List.{List}
 use Prim.Native.Nat.{ℕ, ◌+◌, ◌^◌, ◌≤◌, ◌<◌}
@@ -8,16 +8,17 @@ use native.Mathlib.Omega.{arith}
 use native.Mathlib.Nat.{le_refl}
 use lib.ListN.{length, take, replicate}
 use lib.Seq.{length-take-le}
+use Rattle.std.proofs.lemmas.Result.{err_from_is_err_and}
+use Rattle.questions.specs.Answers.{number_of}
 use Rattle.blocks.specs.Matrices.{All}
 use Rattle.blocks.specs.Words.{rows_of_words, rows_in_lem, laid}
 use Rattle.blocks.proofs.Lent.{lent_front}
 use Rattle.symplectic.specs.Sizes.{max_qubits, most_vectors}
-use Rattle.symplectic.proofs.Work.{room_in_lem, part_words}
+use Rattle.symplectic.proofs.Work.{room_in_lem}
 use Rattle.actions.specs.Actions.{qubits, matrix}
 use Rattle.actions.proofs.Arrays.{loaded}
-use Rattle.questions.specs.Replies.{action_questions_lem, nothing_listed_lem}
+use Rattle.questions.specs.Replies.{action_questions_lem}
 use Rattle.questions.proofs.Questions.{passed_size, passed_count, passed_rows, passed_symplectic}
-use Rattle.questions.proofs.Listings.{listing_passed, refuses}
 use Rattle.residue.specs.Residue.{residue}
 use Rattle.residue.proofs.Core.{residue_length}
 use Rattle.self_inverse.specs.SelfInverse.{is_self_inverse}
@@ -25,27 +26,26 @@ use Rattle.self_inverse.specs.inner.Peels.{SymmetricSquare, Decomposed}
 use Rattle.self_inverse.proofs.Squares.{self_inverse_is}
 use Rattle.self_inverse.proofs.Adjoint.{residue_rest}
 use Rattle.self_inverse.proofs.Counts.{commuting_list}
-use Rattle.self_inverse.proofs.Replied.{Met, met_early, met_short, met_other, met_answer}
+use Rattle.self_inverse.proofs.Replied.{met_early, met_short, met_other, met_answer}
 use Rattle.self_inverse.proofs.clifford_to_transvections_self_inverse.Goals as goal
-use Rattle.self_inverse.proofs.clifford_to_transvections_self_inverse.Goals.{After-from_words-a, After-is_self_inverse, Else-not-is_self_inverse, In-Listed, Start}
+use Rattle.self_inverse.proofs.clifford_to_transvections_self_inverse.Goals.{After-from_words-a, After-is_self_inverse, Else-not-is_self_inverse, In_ok-action_questions, Start}
 
 -- the rows that are lent
 abbrev lent : (c : goal.Start) → List ℕ
 lent c = rows_of_words c.args.n c.args.rows.now
 
 -- every question of the action is passed
-passed : (c : goal.In-Listed) → action_questions_lem c.args.n (lent (goal.at.In-Listed c).Start) ≡ 0
-passed c =
-    listing_passed c.listing_of-asked.result _ _ _ c.listing_of-asked.ensures c.action_questions.ensures c.in-Listed.is
+passed : (c : goal.In_ok-action_questions) → action_questions_lem c.args.n (lent (goal.at.In_ok-action_questions c).Start) ≡ 0
+passed c = sym c.action_questions.ensures ∙ ap number_of c.in_ok-action_questions.was
 
-few : (c : goal.In-Listed) → c.args.n ≤ max_qubits
-few c = passed_size c.args.n (lent (goal.at.In-Listed c).Start) (passed c)
+few : (c : goal.In_ok-action_questions) → c.args.n ≤ max_qubits
+few c = passed_size c.args.n (lent (goal.at.In_ok-action_questions c).Start) (passed c)
 
 -- the action that was read is the one that the words hold
 same : (c : goal.After-from_words-a) → (qubits c.from_words-a.result ≡ c.args.n) × (matrix c.from_words-a.result ≡ lent (goal.at.After-from_words-a c).Start)
 same c =
     let e = c.from_words-a.ensures in
-    loaded c.from_words-a.result c.args.n (lent (goal.at.After-from_words-a c).Start) (few (goal.at.After-from_words-a c).In-Listed) (passed_count c.args.n (lent (goal.at.After-from_words-a c).Start) (passed (goal.at.After-from_words-a c).In-Listed)) e.0 e.1
+    loaded c.from_words-a.result c.args.n (lent (goal.at.After-from_words-a c).Start) (few (goal.at.After-from_words-a c).In_ok-action_questions) (passed_count c.args.n (lent (goal.at.After-from_words-a c).Start) (passed (goal.at.After-from_words-a c).In_ok-action_questions)) e.0 e.1
 
 -- the test of it is that of the rows
 tested : (c : goal.After-is_self_inverse) → c.is_self_inverse.result ≡ is_self_inverse c.args.n (lent (goal.at.After-is_self_inverse c).Start)
@@ -55,12 +55,12 @@ tested c = let e = same (goal.at.After-is_self_inverse c).After-from_words-a in 
 inverse : (c : goal.Else-not-is_self_inverse) → is_self_inverse c.args.n (lent (goal.at.Else-not-is_self_inverse c).Start) ≡ true
 inverse c = sym (tested (goal.at.Else-not-is_self_inverse c).After-is_self_inverse) ∙ c.if-not-is_self_inverse.false
 
-pub returns-in_default : goal.returns-in_default
-returns-in_default c =
+pub returns-in_err-action_questions : goal.returns-in_err-action_questions
+returns-in_err-action_questions c =
     let s = c.args in
-    let k = refuses c.listing_of-asked.result _ c.listing_of-asked.ensures c.in_default.not-Listed in
-    let told = subst (Met s.n s.rows.now s.out.now s.out.now) (sym (c.listing_of-asked.ensures ∙ ap nothing_listed_lem k.1))
-    (met_early s.n s.rows.now s.out.now k.0 (sym c.action_questions.ensures ∙ k.1)) in record {
+    let p = err_from_is_err_and c.from_residual.result c.from_residual.ensures.1 in
+    let told = met_early s.n s.rows.now s.out.now c.in_err-action_questions.field-0.0 (sym (ap number_of c.in_err-action_questions.was) ∙ c.action_questions.ensures) in
+    rw (p.1, p.2) record {
       answered = told.0;
       left = told.1.0;
       replays = told.1.1.0;
@@ -71,15 +71,16 @@ returns-in_default c =
     }
 
 pub overflow_add-wanted : goal.overflow_add-wanted
-overflow_add-wanted c = omega (arith, few c)
+overflow_add-wanted c = omega (arith, few (goal.at.overflow_add-wanted c).In_ok-action_questions)
 
 pub overflow_add-wanted-2 : goal.overflow_add-wanted-2
-overflow_add-wanted-2 c = omega (arith, few c)
+overflow_add-wanted-2 c = omega (arith, few (goal.at.overflow_add-wanted-2 c).In_ok-action_questions)
 
 pub returns-then-out-wanted : goal.returns-then-out-wanted
 returns-then-out-wanted c =
     let s = c.args in
-    let told = met_short s.n s.rows.now s.out.now (passed (goal.at.returns-then-out-wanted c).In-Listed) (omega arith) in record {
+    let told = met_short s.n s.rows.now s.out.now (passed (goal.at.returns-then-out-wanted c).In_ok-action_questions) (omega arith) in
+    rw c.into.ensures record {
       answered = told.0;
       left = told.1.0;
       replays = told.1.1.0;
@@ -92,12 +93,12 @@ returns-then-out-wanted c =
 pub is_self_inverse-requires : goal.is_self_inverse-requires
 is_self_inverse-requires c =
     let e = same c in
-    subst₂ (λ (m : ℕ) (G : List ℕ). All (λ f. f < 2 ^ (m + m)) G) (sym e.0) (sym e.1) (passed_rows c.args.n (lent (goal.at.is_self_inverse-requires c).Start) (passed (goal.at.is_self_inverse-requires c).In-Listed))
+    subst₂ (λ (m : ℕ) (G : List ℕ). All (λ f. f < 2 ^ (m + m)) G) (sym e.0) (sym e.1) (passed_rows c.args.n (lent (goal.at.is_self_inverse-requires c).Start) (passed (goal.at.is_self_inverse-requires c).In_ok-action_questions))
 
 pub returns-then-not-is_self_inverse : goal.returns-then-not-is_self_inverse
 returns-then-not-is_self_inverse c =
     let s = c.args in
-    let told = met_other s.n s.rows.now s.out.now (passed (goal.at.returns-then-not-is_self_inverse c).In-Listed) (omega arith) (sym (tested (goal.at.returns-then-not-is_self_inverse c).After-is_self_inverse) ∙ c.if-not-is_self_inverse.true) in record {
+    let told = met_other s.n s.rows.now s.out.now (passed (goal.at.returns-then-not-is_self_inverse c).In_ok-action_questions) (omega arith) (sym (tested (goal.at.returns-then-not-is_self_inverse c).After-is_self_inverse) ∙ c.if-not-is_self_inverse.true) in record {
       answered = told.0;
       left = told.1.0;
       replays = told.1.1.0;
@@ -107,23 +108,17 @@ returns-then-not-is_self_inverse c =
       seventeen = told.1.1.1.1.1.1;
     }
 
-pub slice_bounds-commuting_turns-end : goal.slice_bounds-commuting_turns-end
-slice_bounds-commuting_turns-end c = refl
-
 -- its residue is symmetric, and smaller than the list
 pub commuting_turns-count-requires : goal.commuting_turns-count-requires
 commuting_turns-count-requires c =
     let n = c.args.n in
     let F = lent (goal.at.commuting_turns-count-requires c).Start in
     let e = same (goal.at.commuting_turns-count-requires c).After-from_words-a in
-    let p = passed (goal.at.commuting_turns-count-requires c).In-Listed in
+    let p = passed (goal.at.commuting_turns-count-requires c).In_ok-action_questions in
     let size = passed_count n F p in
     let long = residue_length n F size in
     subst₂ (λ (m : ℕ) (G : List ℕ). SymmetricSquare (residue m G) × (length (residue m G) < length (rows_in_lem (replicate most_vectors 0)))) (sym e.0) (sym e.1)
-    (residue_rest n F size (passed_rows n F p) (passed_symplectic n F p) (self_inverse_is n F (inverse (goal.at.commuting_turns-count-requires c).Else-not-is_self_inverse)), omega (arith, long, few (goal.at.commuting_turns-count-requires c).In-Listed, room_in_lem most_vectors most_vectors (le_refl most_vectors)))
-
-pub slice_bounds-lay-end : goal.slice_bounds-lay-end
-slice_bounds-lay-end c = let o = c.commuting_turns-count in part_words o.result c.start-to.result o.new.list c.start-to.ensures
+    (residue_rest n F size (passed_rows n F p) (passed_symplectic n F p) (self_inverse_is n F (inverse (goal.at.commuting_turns-count-requires c).Else-not-is_self_inverse)), omega (arith, long, few (goal.at.commuting_turns-count-requires c).In_ok-action_questions, room_in_lem most_vectors most_vectors (le_refl most_vectors)))
 
 pub returns : goal.returns
 returns c =
@@ -132,7 +127,7 @@ returns c =
     let lay = c.lay in
     let s = c.args in
     let F = lent (goal.at.returns c).Start in
-    let p = passed (goal.at.returns c).In-Listed in
+    let p = passed (goal.at.returns c).In_ok-action_questions in
     let e = same (goal.at.returns c).After-from_words-a in
     let vs = take o.result (rows_in_lem o.new.list) in
     let d = subst₂ (λ (m : ℕ) (G : List ℕ). Decomposed (residue m G) vs) e.0 e.1 o.ensures.0 in

@@ -1,5 +1,5 @@
 -- `commuting_turns` lends local words that have room for the rows of an action: its residue, which is taken apart.
-use mathlib.Core.Path.{◌≡◌, refl, sym, ap, ◌∙◌, subst}
+use mathlib.Core.Path.{◌≡◌, sym, ap, ◌∙◌, subst}
 use mathlib.Core.List.{List, ◌++◌}
 use Prim.Native.Nat.{ℕ, ◌+◌, ◌≤◌}
 use lib.ListN.{length, take, drop, replicate}
@@ -10,7 +10,7 @@ use Rattle.blocks.proofs.Values.{unmapped}
 use Rattle.symplectic.specs.Sizes.{most_rows}
 use Rattle.actions.specs.Actions.{qubits, matrix}
 use Rattle.actions.proofs.Arrays.{qubits_le, qubits_capped, matrix_length}
-use Rattle.reduction.proofs.Words.{lent_room, lent_count, lent_rows, left_room, left_count}
+use Rattle.reduction.proofs.Words.{lent_count, lent_rows}
 use Rattle.residue.specs.Residue.{residue}
 use Rattle.residue.proofs.Core.{residue_length}
 use Rattle.self_inverse.specs.inner.Peels.{SymmetricSquare, Decomposed}
@@ -48,40 +48,17 @@ is c =
     ap (λ (l : List ℕ). rows_in_lem l) (take_at o.new.w (drop to words) to (o.auto.w ∙ sym (lent_count (n + n) most_rows to c.start-to.ensures)))
     ∙ o.ensures ∙ over_same (residue (qubits a) (matrix a)) (rows_in_lem (take to words)) (size (goal.at.After-residue c).Start ∙ sym (long (goal.at.After-residue c).After-start-to ∙ ap (λ (k : ℕ). k + k) (count (goal.at.After-residue c).After-capped-n)))
 
-pub slice_bounds-start-end : goal.slice_bounds-start-end
-slice_bounds-start-end c = refl
-
 pub overflow_add-n : goal.overflow_add-n
 overflow_add-n c = omega (arith, fits (goal.at.overflow_add-n c).After-capped-n)
-
-pub slice_bounds-rows-end : goal.slice_bounds-rows-end
-slice_bounds-rows-end c =
-    let n = c.capped-n.result in
-    lent_room (n + n) most_rows c.start-to.result c.start-to.ensures
-
-pub slice_bounds-residue-end : goal.slice_bounds-residue-end
-slice_bounds-residue-end c =
-    let n = c.capped-n.result in
-    lent_count (n + n) most_rows c.start-to.result c.start-to.ensures
-
-pub slice_bounds-rows-end-2 : goal.slice_bounds-rows-end-2
-slice_bounds-rows-end-2 c =
-    let n = c.capped-n.result in
-    let to = c.start-to in
-    let o = c.residue in
-    left_room (n + n) most_rows to.result to.ensures o.new.w o.auto.w
-
-pub slice_bounds-decompose-end : goal.slice_bounds-decompose-end
-slice_bounds-decompose-end c =
-    let n = c.capped-n.result in
-    let to = c.start-to in
-    let o = c.residue in
-    left_count (n + n) most_rows to.result to.ensures o.new.w o.auto.w
 
 pub decompose-requires : goal.decompose-requires
 decompose-requires c =
     let e = is (goal.at.decompose-requires c).After-residue in
-    (subst SymmetricSquare (sym e) c.requires.0, omega (arith, ap length e, size (goal.at.decompose-requires c).Start, qubits_le c.args.a), omega (arith, ap length e, c.requires.1))
+    record {
+      square = subst SymmetricSquare (sym e) c.requires.0;
+      narrow = omega (arith, ap length e, size (goal.at.decompose-requires c).Start, qubits_le c.args.a);
+      room = omega (arith, ap length e, c.requires.1);
+    }
 
 pub returns : goal.returns
 returns c =

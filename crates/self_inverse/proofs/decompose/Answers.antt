@@ -21,18 +21,18 @@ places c = lent_same c.peel-count.new.list c.args.list.now c.peel-count.auto.lis
 few : (c : goal.After-peel-count) → c.peel-count.result ≤ length (rows_in_lem c.peel-count.new.list)
 few c =
     let M = rows_in_lem c.args.rows.now in
-    omega (arith, c.peel-count.ensures.short, rank_length (length M) M, places c, c.requires.2)
-
-pub peel-count-requires : goal.peel-count-requires
-peel-count-requires c = c.requires
+    omega (arith, c.peel-count.ensures.short, rank_length (length M) M, places c, c.requires.room)
 
 pub pair_off-requires : goal.pair_off-requires
 pair_off-requires c =
     let p = c.peel-count.ensures in
     let M = rows_in_lem c.args.rows.now in
     let R = rows_in_lem c.peel-count.new.rows in
-    let short : c.peel-count.result + rank (length R) R ≤ length R = omega (arith, ap (λ (m : ℕ). rank m R) p.square, p.square, p.short, rank_length (length M) M) in
-    (p.left.0, p.left.1, omega (arith, p.square, c.requires.1), omega (arith, p.square, places (goal.at.pair_off-requires c).After-peel-count, c.requires.2), short)
+    let short : c.peel-count.result + rank (length R) R ≤ length R = omega (arith, ap (λ (m : ℕ). rank m R) p.square, p.square, p.short, rank_length (length M) M) in (
+      record { square = p.left.0; narrow = omega (arith, p.square, c.requires.narrow); room = omega (arith, p.square, places (goal.at.pair_off-requires c).After-peel-count, c.requires.room) },
+      p.left.1,
+      short,
+    )
 
 pub returns : goal.returns
 returns c =

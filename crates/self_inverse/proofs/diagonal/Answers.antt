@@ -7,12 +7,8 @@ use Rattle.binar.specs.Bits.{select, bit, ◌⊕◌}
 use Rattle.binar.specs.Rows.{val}
 use Rattle.binar.proofs.Ones.{unit_is}
 use Rattle.blocks.specs.Words.{rows_in_lem}
-use Rattle.self_inverse.proofs.Diagonals.{OnFirst, diagonal_none, diagonal_next, diagonal_end}
-use borrow.Author.Rules.{rules}
+use Rattle.self_inverse.proofs.Diagonals.{OnFirst, diagonal_next}
 use Rattle.self_inverse.proofs.diagonal.Goals as goal
-
-pub loop-i-init : goal.loop-i-init
-loop-i-init c = (search rules, c.rows_in-m.ensures, diagonal_none (rows_in_lem c.args.rows.now) (val c.zero-d.result) c.zero-d.ensures)
 
 pub loop-i-preserved : goal.loop-i-preserved
 loop-i-preserved c =
@@ -21,11 +17,5 @@ loop-i-preserved c =
     let wide = c.requires in
     let is = c.added-d.ensures
     ∙ ap₂ (λ (b : Bool) (u : ℕ). val at.d ⊕ select 0 b u) (c.bit.ensures ∙ ap (bit at.i) c.row.ensures)
-    (c.unit.ensures ∙ unit_is at.i (omega (arith, at.invariant.1))) in
-    (search rules, at.invariant.1, subst (OnFirst R (at.i + 1)) (sym is) (diagonal_next R at.i (val at.d) at.invariant.2))
-
-pub returns : goal.returns
-returns c =
-    let at = c.loop-i in
-    let R = rows_in_lem c.args.rows.now in
-    diagonal_end R at.i (val at.d) (omega (arith, at.invariant.1)) at.invariant.2
+    (c.unit.ensures ∙ unit_is at.i (omega (arith, c.rows_in-m.ensures))) in
+    subst (OnFirst R (at.i + 1)) (sym is) (diagonal_next R at.i (val at.d) at.invariant)

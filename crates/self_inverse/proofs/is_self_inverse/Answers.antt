@@ -1,5 +1,5 @@
 -- `is_self_inverse` lends local words that have room for the rows of an action: I + F, of which the test tells, by `squares_to_zero`.
-use mathlib.Core.Path.{◌≡◌, refl, sym, ap, ◌∙◌}
+use mathlib.Core.Path.{◌≡◌, sym, ap, ◌∙◌}
 use mathlib.Core.List.{List, ◌++◌}
 use Prim.Native.Nat.{ℕ, ◌+◌, ◌≤◌}
 use lib.Dec.{eqb}
@@ -10,10 +10,11 @@ use Rattle.blocks.specs.Words.{rows_in_lem}
 use Rattle.blocks.proofs.Overs.{over_same}
 use Rattle.blocks.proofs.Values.{unmapped}
 use Rattle.symplectic.specs.Sizes.{most_rows}
-use Rattle.symplectic.specs.Turns.{all_of, identity_plus}
+use Rattle.symplectic.specs.Turns.{identity_plus}
+use Rattle.std.specs.List.{list_all}
 use Rattle.actions.specs.Actions.{qubits, matrix}
 use Rattle.actions.proofs.Arrays.{qubits_le, qubits_capped, matrix_length}
-use Rattle.reduction.proofs.Words.{lent_room, lent_count, lent_rows, left_room, left_count}
+use Rattle.reduction.proofs.Words.{lent_count, lent_rows}
 use Rattle.residue.proofs.Parts.{plus_length}
 use Rattle.self_inverse.proofs.Squares.{squares_to_zero}
 use native.Mathlib.Omega.{arith}
@@ -50,38 +51,11 @@ is c =
     ap (λ (l : List ℕ). rows_in_lem l) (take_at o.new.w (drop to words) to (o.auto.w ∙ sym (lent_count (n + n) most_rows to c.start-to.ensures)))
     ∙ o.ensures ∙ over_same (identity_plus (qubits a) (matrix a)) (rows_in_lem (take to words)) (plus_length (qubits a) (matrix a) (size (goal.at.After-put_identity_plus c).Start) ∙ sym (long (goal.at.After-put_identity_plus c).After-start-to ∙ ap (λ (k : ℕ). k + k) (count (goal.at.After-put_identity_plus c).After-capped-n)))
 
-pub slice_bounds-start-end : goal.slice_bounds-start-end
-slice_bounds-start-end c = refl
-
 pub overflow_add-n : goal.overflow_add-n
 overflow_add-n c = omega (arith, fits (goal.at.overflow_add-n c).After-capped-n)
-
-pub slice_bounds-rows-end : goal.slice_bounds-rows-end
-slice_bounds-rows-end c =
-    let n = c.capped-n.result in
-    lent_room (n + n) most_rows c.start-to.result c.start-to.ensures
-
-pub slice_bounds-put_identity_plus-end : goal.slice_bounds-put_identity_plus-end
-slice_bounds-put_identity_plus-end c =
-    let n = c.capped-n.result in
-    lent_count (n + n) most_rows c.start-to.result c.start-to.ensures
-
-pub slice_bounds-rows-end-2 : goal.slice_bounds-rows-end-2
-slice_bounds-rows-end-2 c =
-    let n = c.capped-n.result in
-    let to = c.start-to in
-    let o = c.put_identity_plus in
-    left_room (n + n) most_rows to.result to.ensures o.new.w o.auto.w
-
-pub slice_bounds-squares_to_zero-end : goal.slice_bounds-squares_to_zero-end
-slice_bounds-squares_to_zero-end c =
-    let n = c.capped-n.result in
-    let to = c.start-to in
-    let o = c.put_identity_plus in
-    left_count (n + n) most_rows to.result to.ensures o.new.w o.auto.w
 
 pub returns : goal.returns
 returns c =
     let a = c.args.a in
-    c.squares_to_zero.ensures ∙ ap (λ (P : List ℕ). all_of (λ v. eqb (times v P) 0) P) (is (goal.at.returns c).After-put_identity_plus)
+    c.squares_to_zero.ensures ∙ ap (λ (P : List ℕ). list_all (λ v. eqb (times v P) 0) P) (is (goal.at.returns c).After-put_identity_plus)
     ∙ squares_to_zero (qubits a) (matrix a) (size (goal.at.returns c).Start) c.requires

@@ -14,32 +14,28 @@ use Rattle.blocks.proofs.Values.{set_next}
 use Rattle.reduction.specs.Columns.{rank}
 use Rattle.self_inverse.specs.inner.Peels.{plus_outer}
 use Rattle.self_inverse.proofs.Turns.{Peeled, peel_begins, peel_room, peel_ends, peel_less, peel_turn}
-use borrow.Author.Rules.{rules}
 use Rattle.self_inverse.proofs.peel.Goals as goal
 use Rattle.self_inverse.proofs.peel.Goals.{After-row-v, At-loop-d, In-loop-d}
 
 -- so many are listed
 listed : (c : goal.At-loop-d) → length (take c.loop-d.count (rows_in_lem c.loop-d.list)) ≡ c.loop-d.count
-listed c = length-take-le c.loop-d.count (rows_in_lem c.loop-d.list) c.loop-d.invariant.3
+listed c = length-take-le c.loop-d.count (rows_in_lem c.loop-d.list) c.loop-d.invariant.listed
 
 -- no more than there are rows
 few : (c : goal.At-loop-d) → c.loop-d.count ≤ length (rows_in_lem c.args.rows.now)
-few c = let at = c.loop-d in omega (arith, listed c, peel_room _ (rows_in_lem at.rows) (take at.count (rows_in_lem at.list)) (val at.d) at.invariant.4)
+few c = let at = c.loop-d in omega (arith, listed c, peel_room _ (rows_in_lem at.rows) (take at.count (rows_in_lem at.list)) (val at.d) at.invariant.peeled)
 
 -- the diagonal has a one, and the row of the first is taken
 other : (c : goal.In-loop-d) → eqb (val c.loop-d.d) 0 ≡ false
 other c = sym c.is_zero.ensures ∙ c.loop-d-test.true
 
-pub diagonal-d-requires : goal.diagonal-d-requires
-diagonal-d-requires c = c.requires.1
-
 pub loop-d-init : goal.loop-d-init
 loop-d-init c =
-    (refl, refl, refl, zero-le, peel_begins (rows_in_lem c.args.rows.now) (val c.diagonal-d.result) c.requires.0 c.diagonal-d.ensures)
+    record { room = refl; listed = zero-le; peeled = peel_begins (rows_in_lem c.args.rows.now) (val c.diagonal-d.result) c.requires.square c.diagonal-d.ensures }
 
 pub overflow_add-count : goal.overflow_add-count
 overflow_add-count c =
-    omega (arith, few (goal.at.overflow_add-count c).At-loop-d, c.requires.1)
+    omega (arith, few (goal.at.overflow_add-count c).At-loop-d, c.requires.narrow)
 
 -- the row that is taken
 row_is : (c : goal.After-row-v) → let at = c.loop-d in val c.row-v.result ≡ get_or (rows_in_lem at.rows) (lowest (val at.d)) 0
@@ -51,7 +47,7 @@ loop-d-smaller c =
     let M = rows_in_lem c.args.rows.now in
     let R = rows_in_lem at.rows in
     subst (λ (x : List ℕ). rank (length M) x < rank (length M) R) (sym c.add_outer.ensures)
-    (peel_less M R (take at.count (rows_in_lem at.list)) (val at.d) at.invariant.4 c.requires.1 (other (goal.at.loop-d-smaller c).In-loop-d) (val c.row-v.result) (row_is (goal.at.loop-d-smaller c).After-row-v))
+    (peel_less M R (take at.count (rows_in_lem at.list)) (val at.d) at.invariant.peeled c.requires.narrow (other (goal.at.loop-d-smaller c).In-loop-d) (val c.row-v.result) (row_is (goal.at.loop-d-smaller c).After-row-v))
 
 pub loop-d-preserved : goal.loop-d-preserved
 loop-d-preserved c =
@@ -61,21 +57,19 @@ loop-d-preserved c =
     let L = rows_in_lem at.list in
     let v = val c.row-v.result in
     let put = c.put.ensures in
-    let inside : at.count < length L = omega (arith, few (goal.at.loop-d-preserved c).At-loop-d, at.invariant.2, c.requires.2) in
-    let long = ap length put ∙ length-set L at.count v in (
-      search rules,
-      search rules,
-      long ∙ at.invariant.2,
-      omega (arith, long),
-      subst₂ (λ (x l : List ℕ). Peeled M x l (val c.sum-d.result)) (sym c.add_outer.ensures) (sym (ap (take (at.count + 1)) put ∙ set_next L at.count v inside))
-          (subst (Peeled M (plus_outer v v R) (take at.count L ++ (v ∷ []))) (sym c.sum-d.ensures)
-          (peel_turn M R (take at.count L) (val at.d) at.invariant.4 c.requires.1 (other (goal.at.loop-d-preserved c).In-loop-d) v (row_is (goal.at.loop-d-preserved c).After-row-v))),
-    )
+    let inside : at.count < length L = omega (arith, few (goal.at.loop-d-preserved c).At-loop-d, at.invariant.room, c.requires.room) in
+    let long = ap length put ∙ length-set L at.count v in record {
+      room = long ∙ at.invariant.room;
+      listed = omega (arith, long);
+      peeled = subst₂ (λ (x l : List ℕ). Peeled M x l (val c.bitxor_assign.new.self)) (sym c.add_outer.ensures) (sym (ap (take (at.count + 1)) put ∙ set_next L at.count v inside))
+          (subst (Peeled M (plus_outer v v R) (take at.count L ++ (v ∷ []))) (sym c.bitxor_assign.ensures.after)
+          (peel_turn M R (take at.count L) (val at.d) at.invariant.peeled c.requires.narrow (other (goal.at.loop-d-preserved c).In-loop-d) v (row_is (goal.at.loop-d-preserved c).After-row-v)));
+    }
 
 pub returns : goal.returns
 returns c =
     let at = c.loop-d in
-    let p = at.invariant.4 in
+    let p = at.invariant.peeled in
     let zero : val at.d ≡ 0 = eqb-true (val at.d) 0 (sym c.is_zero.ensures ∙ c.loop-d-test.false) in record {
       square = p.square;
       left = (p.rest, peel_ends _ (rows_in_lem at.rows) _ (val at.d) p zero);

@@ -9,9 +9,11 @@ use Rattle.self_inverse.proofs.Turns.{Peeled}
 use Rattle.self_inverse.proofs.peel.Given as goal
 
 abbrev pub invariant-loop-d : goal.invariant-loop-d
-invariant-loop-d l =
-    (length l.rows ≡ length l.initial.rows) × (length l.list ≡ length l.initial.list) × (length (rows_in_lem l.list) ≡ length (rows_in_lem l.initial.list)) × (l.count ≤ length (rows_in_lem l.list))
-    × Peeled (rows_in_lem l.initial.rows) (rows_in_lem l.rows) (take l.count (rows_in_lem l.list)) (val l.d)
+invariant-loop-d l = record {
+  room : length (rows_in_lem l.list) ≡ length (rows_in_lem l.initial.list);
+  listed : l.count ≤ length (rows_in_lem l.list);
+  peeled : Peeled (rows_in_lem l.initial.rows) (rows_in_lem l.rows) (take l.count (rows_in_lem l.list)) (val l.d);
+}
 
 abbrev pub decreases-loop-d : goal.decreases-loop-d
 decreases-loop-d l = rank (length (rows_in_lem l.initial.rows)) (rows_in_lem l.rows)

@@ -20,7 +20,7 @@ use Rattle.self_inverse.proofs.peel_pair.Goals.{After-row-s, Start}
 
 -- the vectors that stand are in the list
 stand : (c : goal.Start) → c.args.k ≤ length (rows_in_lem c.args.list.now)
-stand c = let p = c.requires in omega (arith, p.3, p.4)
+stand c = let p = c.requires in omega (arith, p.0.room, p.2)
 
 listed : (c : goal.Start) → length (take c.args.k (rows_in_lem c.args.list.now)) ≡ c.args.k
 listed c = length-take-le c.args.k (rows_in_lem c.args.list.now) (stand c)
@@ -31,7 +31,7 @@ returns-then-is_zero c =
     let R = rows_in_lem s.rows.now in
     let row = c.row-f in
     let zero : val row.result ≡ 0 = eqb-true (val row.result) 0 (sym c.is_zero.ensures ∙ c.if-is_zero.true) in record {
-      paired = unpaired s.i R (take s.k (rows_in_lem s.list.now)) c.requires.0 c.requires.1 (times_unit s.i R ∙ sym row.ensures ∙ zero);
+      paired = unpaired s.i R (take s.k (rows_in_lem s.list.now)) c.requires.0.square c.requires.1 (times_unit s.i R ∙ sym row.ensures ∙ zero);
       room = (stand (goal.at.returns-then-is_zero c).Start, refl);
     }
 
@@ -50,8 +50,8 @@ put_pair-requires c =
     let R = rows_in_lem s.rows.now in
     let row = c.row-f in
     let vs = take s.k (rows_in_lem s.list.now) in
-    let room = pair_room R p.0 p.1 p.2 s.i (val row.result) (val c.row-s.result) row.ensures (partner (goal.at.put_pair-requires c).After-row-s) (other (goal.at.put_pair-requires c).After-row-s) vs (omega (arith, listed (goal.at.put_pair-requires c).Start, p.4)) in
-    (stand (goal.at.put_pair-requires c).Start, omega (arith, p.2, p.4), omega (arith, room, p.3))
+    let room = pair_room R p.0.square p.1 p.0.narrow s.i (val row.result) (val c.row-s.result) row.ensures (partner (goal.at.put_pair-requires c).After-row-s) (other (goal.at.put_pair-requires c).After-row-s) vs (omega (arith, listed (goal.at.put_pair-requires c).Start, p.2)) in
+    (stand (goal.at.put_pair-requires c).Start, omega (arith, p.0.narrow, p.2), omega (arith, room, p.0.room))
 
 pub returns : goal.returns
 returns c =
@@ -64,8 +64,8 @@ returns c =
     let vs = take s.k (rows_in_lem s.list.now) in
     let put = c.put_pair.ensures in
     let left = c.add_outer-2.ensures ∙ ap (plus_outer g f) c.add_outer.ensures in
-    let q = pair_turn R p.0 p.1 p.2 s.i f g row.ensures (partner (goal.at.returns c).After-row-s) (other (goal.at.returns c).After-row-s) vs in
-    let room = pair_room R p.0 p.1 p.2 s.i f g row.ensures (partner (goal.at.returns c).After-row-s) (other (goal.at.returns c).After-row-s) vs (omega (arith, listed (goal.at.returns c).Start, p.4)) in record {
+    let q = pair_turn R p.0.square p.1 p.0.narrow s.i f g row.ensures (partner (goal.at.returns c).After-row-s) (other (goal.at.returns c).After-row-s) vs in
+    let room = pair_room R p.0.square p.1 p.0.narrow s.i f g row.ensures (partner (goal.at.returns c).After-row-s) (other (goal.at.returns c).After-row-s) vs (omega (arith, listed (goal.at.returns c).Start, p.2)) in record {
       paired = subst₂ (λ (x l : List ℕ). Paired s.i R x vs l) (sym left) (sym put.2) q;
-      room = (omega (arith, put.0, put.1, room, p.3), put.1);
+      room = (omega (arith, put.0, put.1, room, p.0.room), put.1);
     }

@@ -1,7 +1,7 @@
 -- `put_pair` puts three vectors where the last one stood, by `pair_last`; where there is none, from the start.
 use mathlib.Core.Path.{◌≡◌, sym, ap, ◌∙◌}
 use mathlib.Core.List.{List, ◌++◌}
-use Prim.Native.Nat.{ℕ, ◌+◌, ◌-◌, zero-le}
+use Prim.Native.Nat.{ℕ, ◌+◌, ◌-◌}
 use native.Mathlib.Omega.{arith}
 use lib.ListN.{length, take, get_or, length-append}
 use lib.Seq.{length-take-le}
@@ -38,21 +38,6 @@ longer c =
     let s = c.args in
     let l = rows_in_lem s.list.now in
     ap length (last c) ∙ length-append (take (s.k - 1) l) (three (val s.f) (val s.s) (get_or l (s.k - 1) 0)) ∙ ap (λ (n : ℕ). n + 3) (length-take-le (s.k - 1) l (omega (arith, c.requires.0)))
-
-pub put_three-requires : goal.put_three-requires
-put_three-requires c =
-    let e = none (goal.at.put_three-requires c).Then-k-eq0 in
-    (omega (arith, ap length e, c.requires.2), zero-le)
-
-pub returns-then-k-eq0 : goal.returns-then-k-eq0
-returns-then-k-eq0 c =
-    let e = none (goal.at.returns-then-k-eq0 c).Then-k-eq0 in
-    let o = c.put_three in
-    let s = c.args in (
-      o.ensures.0 ∙ sym (ap length e),
-      o.ensures.1,
-      taken _ _ o.ensures.0 o.ensures.2 ∙ ap (three (val s.f) (val s.s)) c.zero.ensures ∙ sym e,
-    )
 
 pub put_three-requires-2 : goal.put_three-requires-2
 put_three-requires-2 c =

@@ -2,6 +2,7 @@
 -- Assumes nothing.
 use Rattle.std.specs.Prelude.{◌≡◌, false, ◌⊎◌, List, [], ◌∷◌, ℕ, suc, ◌+◌, ◌/◌, ◌^◌, ◌≤◌, ◌<◌, length, get_or}
 use Rattle.binar.specs.Bits.{select, odd, bit, dot, ◌⊕◌}
+use Rattle.binar.specs.Rows.{width}
 use Rattle.blocks.specs.Matrices.{times, All}
 use Rattle.reduction.specs.Columns.{rank}
 
@@ -31,6 +32,12 @@ with_pair f s (v ∷ w ∷ vs) = v ∷ with_pair f s (w ∷ vs)
 pub record SymmetricSquare (R : List ℕ) : Type 0 where
   pub symmetric : (x y : ℕ) → dot (times x R) y ≡ dot x (times y R)
   pub bounded : All (λ v. v < 2 ^ length R) R
+
+-- one to be peeled off into a list, which has room for one vector more than it has rows
+pub record Peelable (R list : List ℕ) : Type 0 where
+  pub square : SymmetricSquare R
+  pub narrow : length R ≤ width
+  pub room : length R < length list
 
 -- each vector times it has no dot with itself: of a symmetric matrix, the diagonal is zero
 abbrev pub Level : List ℕ → Type 0

@@ -1,18 +1,5 @@
--- `pass_members` puts each row behind its level as `passed_at` says.
-use mathlib.Core.Path.{◌≡◌}
-use mathlib.Core.List.{map}
-use Prim.Native.Nat.{ℕ, ◌+◌, ◌-◌, ◌≤◌}
-use lib.ListN.{length, get_or, take}
-use Rattle.binar.specs.Bits.{bit}
-use Rattle.binar.specs.Rows.{val}
-use Rattle.blocks.specs.Words.{rows_in_lem}
-use Rattle.spaces.specs.Levels.{below, over_from, passed_at}
+-- `pass_members` puts each member as it is passed on.
 use Rattle.spaces.proofs.pass_members.Given as goal
 
-abbrev pub invariant-loop-n : goal.invariant-loop-n
-invariant-loop-n l = (1 ≤ l.n) × (l.n - 1 ≤ l.d - 1) × (length l.basis ≡ length l.initial.basis)
-    × (rows_in_lem l.basis ≡ over_from (l.d + l.d) (take (l.n - 1) (map (passed_at (val l.fn.h) l.j (take l.d (rows_in_lem l.initial.basis))) (below (l.d - 1)))) (rows_in_lem l.initial.basis))
-    × (val l.x ≡ get_or (rows_in_lem l.initial.basis) (l.n - 1) 0) × ((t : ℕ) → bit t (val l.r) ≡ bit (l.n - 1 + t) (val l.fn.h))
-
-abbrev pub decreases-loop-n : goal.decreases-loop-n
-decreases-loop-n l = l.d - l.n
+abbrev pub ghost-pass : goal.ghost-pass
+ghost-pass a = λ x. x

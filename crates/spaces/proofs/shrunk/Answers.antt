@@ -11,6 +11,6 @@ unfolding shrunk without_column
 returns c =
     let s = c.args in
     let y : val c.added-y.result ≡ _ = c.added-y.ensures ∙ ap (λ b. val s.x ⊕ select 0 b (val s.h)) c.bit.ensures in
-    c.sum-2.ensures
-    ∙ ap₂ ◌⊕◌ c.low-low.ensures (c.shift_down.ensures ∙ ap (λ t. t / 2 ^ 1) (c.sum.ensures ∙ ap (λ t. val c.added-y.result ⊕ t) c.low-low.ensures))
+    c.bitxor-2.ensures
+    ∙ ap₂ ◌⊕◌ c.low-low.ensures (c.shift_down.ensures ∙ ap (λ t. t / 2 ^ 1) (c.bitxor.ensures ∙ ap (λ t. val c.added-y.result ⊕ t) c.low-low.ensures))
     ∙ ap (without_column s.j) y

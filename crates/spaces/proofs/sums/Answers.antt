@@ -3,7 +3,6 @@ use mathlib.Core.Path.{refl, sym, ap, ap₂, ◌∙◌}
 use mathlib.Core.List.{map}
 use Prim.Native.Nat.{◌-◌, ◌^◌, ◌<◌}
 use native.Mathlib.Numerals.{add-one}
-use native.Mathlib.Omega.{arith}
 use lib.ListN.{get_or, take}
 use lib.Seq.{get_or-take}
 use Rattle.binar.specs.Bits.{◌⊕◌}
@@ -27,9 +26,6 @@ loop-i-init c =
     let R = rows_in_lem c.args.w.now in
     (search rules, refl, from_start d (sum_to (take d R)) d R, c.zero-s.ensures ∙ sym (times_zero (take d R)))
 
-pub overflow_add-d : goal.overflow_add-d
-overflow_add-d c = omega (arith, c.if-d-gt-WIDTH.false)
-
 pub loop-i-preserved : goal.loop-i-preserved
 loop-i-preserved c =
     let at = c.loop-i in
@@ -39,10 +35,10 @@ loop-i-preserved c =
     let rows = map (sum_to M) (below d) in
     let l : at.i < d = search rules in
     let read = c.row.ensures ∙ ap (λ w. get_or w at.i 0) at.invariant.2 ∙ from_before d (take at.i rows) R at.i l ∙ sym (get_or-take d R at.i 0 l) in
-    let sum = c.sum-s.ensures ∙ ap₂ ◌⊕◌ at.invariant.3 read ∙ summed_more M at.i in (
+    let sum = c.bitxor_assign.ensures.after ∙ ap₂ ◌⊕◌ at.invariant.3 read ∙ summed_more M at.i in (
       search rules,
       search rules,
-      c.put.ensures ∙ from_next d (sum_to M) d R (rows_in_lem at.w) at.i (val c.sum-s.result) l at.invariant.2 (sum ∙ sym (sum_is M at.i)),
+      c.put.ensures ∙ from_next d (sum_to M) d R (rows_in_lem at.w) at.i (val c.bitxor_assign.new.self) l at.invariant.2 (sum ∙ sym (sum_is M at.i)),
       sum ∙ ap (λ n. times (2 ^ n - 1) M) (sym (add-one at.i)),
     )
 

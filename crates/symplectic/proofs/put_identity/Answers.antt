@@ -25,7 +25,7 @@ loop-i-preserved c =
     let s = c.args in
     let at = c.loop-i in
     let q = capped s.n in
-    let few = c.lesser-count.ensures in
+    let few = c.min-count.ensures in
     let h : at.i < q + q = omega (arith, few, c.capped-k.ensures) in
     let g : at.i < length (rows_in_lem s.w.now) = omega (arith, few, c.rows_in.ensures) in
     let wide : at.i < width = omega (arith, h, capped_le s.n) in (
@@ -40,4 +40,4 @@ returns c =
     let s = c.args in
     let at = c.loop-i in
     let q = capped s.n in
-    at.invariant.2 ∙ over_end (units (q + q)) (rows_in_lem s.w.now) at.i (omega (arith, units_length (q + q), c.lesser-count.ensures, c.rows_in.ensures, c.capped-k.ensures))
+    at.invariant.2 ∙ over_end (units (q + q)) (rows_in_lem s.w.now) at.i (omega (arith, units_length (q + q), c.min-count.ensures, c.rows_in.ensures, c.capped-k.ensures))

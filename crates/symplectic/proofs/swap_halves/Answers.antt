@@ -14,4 +14,4 @@ returns c =
     let s = c.args in
     let x = c.shift_up.ensures ∙ ap (λ (t : ℕ). t * 2 ^ s.n % row_bound) c.low-x.ensures in
     let z = c.low-z.ensures ∙ ap (λ (t : ℕ). t % 2 ^ s.n) c.shift_down.ensures in
-    c.sum.ensures ∙ ap₂ ◌⊕◌ x z ∙ swap_rows s.n (val s.v) (search rules)
+    c.bitxor.ensures ∙ ap₂ ◌⊕◌ x z ∙ swap_rows s.n (val s.v) (search rules)

@@ -9,7 +9,7 @@ use Rattle.symplectic.proofs.turned.Goals as goal
 pub returns-then-dot : goal.returns-then-dot
 returns-then-dot c =
     let s = c.args in
-    c.sum.ensures ∙ ap (λ (b : Bool). val s.u ⊕ select 0 b (val s.v)) (sym c.if-dot.true ∙ c.dot.ensures)
+    c.bitxor.ensures ∙ ap (λ (b : Bool). val s.u ⊕ select 0 b (val s.v)) (sym c.if-dot.true ∙ c.dot.ensures)
 
 pub returns-else-dot : goal.returns-else-dot
 returns-else-dot c =

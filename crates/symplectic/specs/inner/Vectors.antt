@@ -4,7 +4,8 @@ use Rattle.std.specs.Prelude.{Bool, false, ◌&&◌, ℕ, zero, suc, ◌+◌, �
 use mathlib.Core.List.{List, [], ◌∷◌, zip}
 use Rattle.binar.specs.Bits.{◌⊻◌, bit}
 use Rattle.blocks.specs.Matrices.{units}
-use Rattle.symplectic.specs.Turns.{x_bits, z_bits, turn, all_of, pair_alike}
+use Rattle.symplectic.specs.Turns.{x_bits, z_bits, turn, pair_alike}
+use Rattle.std.specs.List.{list_all}
 
 -- a vector sent through the turns of a list, in order
 abbrev pub run : ℕ → List ℕ → ℕ → ℕ
@@ -13,7 +14,7 @@ run n (v ∷ vs) u = run n vs (turn n v u)
 
 -- row i pairs with the rows below row j as its basis vector does with theirs
 unfoldable pub pairs_below : ℕ → List ℕ → ℕ → ℕ → Bool
-pairs_below n F i j = all_of (pair_alike n (get_or F i 0, 2 ^ i)) (take j (zip F (units (n + n))))
+pairs_below n F i j = list_all (pair_alike n (get_or F i 0, 2 ^ i)) (take j (zip F (units (n + n))))
 
 -- a vector with its halves exchanged
 unfoldable pub swap_halves_lem : ℕ → ℕ → ℕ

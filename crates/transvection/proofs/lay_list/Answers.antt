@@ -12,7 +12,7 @@ use Rattle.blocks.proofs.Overs.{over_front}
 use Rattle.symplectic.specs.Sizes.{most_rows}
 use Rattle.actions.specs.Actions.{qubits, matrix}
 use Rattle.actions.proofs.Arrays.{qubits_le, matrix_length, qubits_capped}
-use Rattle.symplectic.proofs.Work.{room_in_lem, part_words}
+use Rattle.symplectic.proofs.Work.{room_in_lem}
 use Rattle.transvection.specs.Greedy.{recorded, greedy_list}
 use Rattle.transvection.proofs.Kept.{back_length}
 use borrow.Author.Rules.{rules}
@@ -51,9 +51,6 @@ load-requires c = room_in_lem most_rows (qubits c.args.a + qubits c.args.a) (ome
 
 pub overflow_add-n : goal.overflow_add-n
 overflow_add-n c = omega (arith, qubits_is (goal.at.overflow_add-n c).After-capped-n, qubits_le c.args.a)
-
-pub slice_bounds-record_turns-end : goal.slice_bounds-record_turns-end
-slice_bounds-record_turns-end c = let n = c.capped-n.result in part_words (n + n) c.start-to.result c.load.new.w c.start-to.ensures
 
 pub record_turns-count-requires : goal.record_turns-count-requires
 record_turns-count-requires c =

@@ -1,5 +1,5 @@
 -- `load` puts the rows over others one by one, by `over_next` and `over_end`.
-use mathlib.Core.Path.{◌≡◌, refl, ◌∙◌, sym}
+use mathlib.Core.Path.{◌≡◌, ◌∙◌, sym}
 use Prim.Native.Nat.{◌+◌, ◌<◌}
 use native.Mathlib.Omega.{arith}
 use lib.ListN.{length}
@@ -22,17 +22,11 @@ size c = let long : length c.args.a.rows ≡ most_rows = search (rules, unmapped
 pub overflow_add-count : goal.overflow_add-count
 overflow_add-count c = omega (arith, qubits_is c, qubits_le c.args.a)
 
-pub loop-i-init : goal.loop-i-init
-loop-i-init c = (search rules, refl, refl)
-
 pub offset_bounds-a-i : goal.offset_bounds-a-i
 offset_bounds-a-i c = omega (arith, qubits_le c.args.a, qubits_is (goal.at.offset_bounds-a-i c).After-capped-n, c.loop-i-test.true)
 
 pub bounds-a-i : goal.bounds-a-i
 bounds-a-i c = let s = c.args in omega (arith, qubits_le s.a, qubits_is (goal.at.bounds-a-i c).After-capped-n, c.loop-i-test.true)
-
-pub overflow_step-i : goal.overflow_step-i
-overflow_step-i c = omega (arith, qubits_le c.args.a, qubits_is (goal.at.overflow_step-i c).After-capped-n, c.loop-i-test.true)
 
 pub loop-i-preserved : goal.loop-i-preserved
 loop-i-preserved c =
@@ -40,14 +34,11 @@ loop-i-preserved c =
     let at = c.loop-i in
     let q = qubits_is (goal.at.loop-i-preserved c).After-capped-n in
     let h : at.i < qubits s.a + qubits s.a = omega (arith, q, c.loop-i-test.true) in
-    let many = size (goal.at.loop-i-preserved c).Start in (
-      search rules,
-      search rules,
-      c.put.ensures ∙ over_next (matrix s.a) (rows_in_lem s.w.now) (rows_in_lem at.w) at.i _ (omega (arith, many)) (omega (arith, c.requires)) at.invariant.2 (matrix_get s.a at.i h),
-    )
+    let many = size (goal.at.loop-i-preserved c).Start in
+    c.put.ensures ∙ over_next (matrix s.a) (rows_in_lem s.w.now) (rows_in_lem at.w) at.i _ (omega (arith, many)) (omega (arith, c.requires)) at.invariant (matrix_get s.a at.i h)
 
 pub returns : goal.returns
 returns c =
     let s = c.args in
     let at = c.loop-i in
-    at.invariant.2 ∙ over_end (matrix s.a) (rows_in_lem s.w.now) at.i (omega (arith, size (goal.at.returns c).Start, qubits_is (goal.at.returns c).After-capped-n, c.requires))
+    at.invariant ∙ over_end (matrix s.a) (rows_in_lem s.w.now) at.i (omega (arith, size (goal.at.returns c).Start, qubits_is (goal.at.returns c).After-capped-n, c.requires))

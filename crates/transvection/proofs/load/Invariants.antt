@@ -1,14 +1,10 @@
 -- `load` puts the rows over others one by one, by `over_next` and `over_end`.
 use mathlib.Core.Path.{◌≡◌}
 use mathlib.Core.List.{◌++◌}
-use Prim.Native.Nat.{◌-◌, ◌≤◌}
-use lib.ListN.{length, take, drop}
+use lib.ListN.{take, drop}
 use Rattle.blocks.specs.Words.{rows_in_lem}
 use Rattle.actions.specs.Actions.{matrix}
 use Rattle.transvection.proofs.load.Given as goal
 
 abbrev pub invariant-loop-i : goal.invariant-loop-i
-invariant-loop-i l = (l.i ≤ l.count) × (length l.w ≡ length l.initial.w) × (rows_in_lem l.w ≡ take l.i (matrix l.a) ++ drop l.i (rows_in_lem l.initial.w))
-
-abbrev pub decreases-loop-i : goal.decreases-loop-i
-decreases-loop-i l = l.count - l.i
+invariant-loop-i l = rows_in_lem l.w ≡ take l.i (matrix l.a) ++ drop l.i (rows_in_lem l.initial.w)

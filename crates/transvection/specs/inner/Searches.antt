@@ -1,17 +1,21 @@
 -- What the searches of the code find, from a row on. Only private contracts use these.
 -- Assumes nothing.
-use Rattle.std.specs.Prelude.{List, ℕ, get_or, drop}
+use Rattle.std.specs.Prelude.{Option as Answer, Some, None, List, ℕ, ◌^◌, get_or, drop}
 use Rattle.std.proofs.Math.Option.{Option, none, some}
+use Rattle.binar.specs.declared.Row.{Row}
 use Rattle.binar.specs.Rows.{val}
+use Rattle.binar.specs.Bits.{◌⊕◌}
 use Rattle.symplectic.specs.Picks.{map_some, first_one_lem, uneven_with_lem, first_uneven_lem, add_both}
-use Rattle.transvection.specs.declared.Found.{Found}
-use Rattle.transvection.specs.declared.Found.TheVariants.{Vector, Nothing}
 use Rattle.transvection.specs.Greedy.{beside_basis, row_pairing}
 
 -- the vector that a search finds
-abbrev pub chosen : Found → Option ℕ
-chosen (Vector row) = some (val row)
-chosen Nothing = none
+abbrev pub chosen : Answer Row → Option ℕ
+chosen (Some row) = some (val row)
+chosen None = none
+
+-- row i of I + F
+abbrev pub row_at : List ℕ → ℕ → ℕ
+row_at F i = get_or F i 0 ⊕ 2 ^ i
 
 -- the lowest row, from row i on, that pairs to 1 with its own basis vector
 unfoldable pub one_from : ℕ → List ℕ → ℕ → Option ℕ

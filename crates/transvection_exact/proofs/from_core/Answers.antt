@@ -14,7 +14,7 @@ use Rattle.symplectic.specs.Sizes.{most_rows, most_vectors}
 use Rattle.actions.specs.Actions.{qubits, matrix}
 use Rattle.questions.specs.Replies.{Reply}
 use Rattle.actions.proofs.Arrays.{qubits_le, matrix_length, qubits_capped}
-use Rattle.symplectic.proofs.Work.{room_in_lem, part_words}
+use Rattle.symplectic.proofs.Work.{room_in_lem}
 use Rattle.residue.proofs.Core.{core_length, core_within}
 use Rattle.triangular.specs.declared.Ending.TheVariants.{Found, Failed}
 use Rattle.family.specs.Family.{core_family, vectors_of}
@@ -106,38 +106,32 @@ returns-in-Found c =
       remembered = entered (goal.at.returns-in-Found c).After-congruence_triangularize-o;
     }
 
-pub returns : goal.returns
-returns c =
+pub returns-in-Failed : goal.returns-in-Failed
+returns-in-Failed c =
     let s = c.args in
     let pre = c.requires in
     let o = c.congruence_triangularize-o in
-    let q = qubits_is (goal.at.returns c).After-capped-n in
+    let q = qubits_is (goal.at.returns-in-Failed c).After-capped-n in
     let l = c.bordered_family in
-    let k = c.rows_in-2 in
-    let to = c.start-to-2 in
+    let k = c.rows_in-in-Failed in
+    let to = c.start-to-in-Failed in
     let fails : o.result.ending ≡ Failed = search (rules, c.in-Failed.is) in
-    let count = family_size (goal.at.returns c).Start in
-    let few = rows_few (goal.at.returns c).Start in
-    let one : k.result + 1 ≡ length (family_of (goal.at.returns c).Start) = omega (arith, count, k.ensures) in
-    let room : length (family_of (goal.at.returns c).Start) ≤ length (rows_in_lem o.new.list) =
-    subst (λ (m : ℕ). length (family_of (goal.at.returns c).Start) ≤ m) (sym (ap length o.ensures.left ∙ over_length _ (rows_in_lem (replicate most_vectors 0)))) (room_in_lem most_vectors (length (family_of (goal.at.returns c).Start)) (omega (arith, count, few))) in
-    let list : rows_in_lem (take to.result l.new.list) ≡ family_of (goal.at.returns c).Start =
+    let count = family_size (goal.at.returns-in-Failed c).Start in
+    let few = rows_few (goal.at.returns-in-Failed c).Start in
+    let one : k.result + 1 ≡ length (family_of (goal.at.returns-in-Failed c).Start) = omega (arith, count, k.ensures) in
+    let room : length (family_of (goal.at.returns-in-Failed c).Start) ≤ length (rows_in_lem o.new.list) =
+    subst (λ (m : ℕ). length (family_of (goal.at.returns-in-Failed c).Start) ≤ m) (sym (ap length o.ensures.left ∙ over_length _ (rows_in_lem (replicate most_vectors 0)))) (room_in_lem most_vectors (length (family_of (goal.at.returns-in-Failed c).Start)) (omega (arith, count, few))) in
+    let list : rows_in_lem (take to.result l.new.list) ≡ family_of (goal.at.returns-in-Failed c).Start =
     lent_front (k.result + 1) to.result l.new.list to.ensures
-    ∙ ap₂ take one (l.ensures ∙ ap (λ (E : List ℕ). over (vectors_of (core_family E)) (rows_in_lem o.new.list)) (core_fits (qubits s.a) (matrix s.a) (size (goal.at.returns c).Start) (qubits_le s.a) s.core.now pre.1))
-    ∙ over_front (family_of (goal.at.returns c).Start) (rows_in_lem o.new.list) room in
+    ∙ ap₂ take one (l.ensures ∙ ap (λ (E : List ℕ). over (vectors_of (core_family E)) (rows_in_lem o.new.list)) (core_fits (qubits s.a) (matrix s.a) (size (goal.at.returns-in-Failed c).Start) (qubits_le s.a) s.core.now pre.1))
+    ∙ over_front (family_of (goal.at.returns-in-Failed c).Start) (rows_in_lem o.new.list) room in
     let vs = matmul (rows_in_lem (take to.result l.new.list)) (rows_in_lem s.basis.now) in
-    let e = c.multiplied-2.ensures in
-    let w = searched_failed (qubits s.a) (matrix s.a) s.budget s.out.now (outcome (goal.at.returns c).Start) o.result (came (goal.at.returns c).After-congruence_triangularize-o) vs fails (ap₂ matmul list pre.0) in record {
+    let e = c.multiplied-in-Failed.ensures in
+    let w = searched_failed (qubits s.a) (matrix s.a) s.budget s.out.now (outcome (goal.at.returns-in-Failed c).Start) o.result (came (goal.at.returns-in-Failed c).After-congruence_triangularize-o) vs fails (ap₂ matmul list pre.0) in record {
       answered = e.answered ∙ sym (ap (λ (x : Reply). x.figures) w);
       left = e.left ∙ ap (λ (m : ℕ). laid m vs s.out.now) q ∙ sym (ap (λ (x : Reply). x.words) w);
-      remembered = entered (goal.at.returns c).After-congruence_triangularize-o;
+      remembered = entered (goal.at.returns-in-Failed c).After-congruence_triangularize-o;
     }
 
-pub slice_bounds-multiplied-end : goal.slice_bounds-multiplied-end
-slice_bounds-multiplied-end c = part_words c.rows_in.result c.start-to.result c.congruence_triangularize-o.new.list c.start-to.ensures
-
 pub overflow_add-rows_in : goal.overflow_add-rows_in
-overflow_add-rows_in c = omega (arith, c.rows_in-2.ensures, rows_few (goal.at.overflow_add-rows_in c).Start)
-
-pub slice_bounds-multiplied-end-2 : goal.slice_bounds-multiplied-end-2
-slice_bounds-multiplied-end-2 c = part_words (c.rows_in-2.result + 1) c.start-to-2.result c.bordered_family.new.list c.start-to-2.ensures
+overflow_add-rows_in c = omega (arith, c.rows_in-in-Failed.ensures, rows_few (goal.at.overflow_add-rows_in c).Start)

@@ -10,7 +10,7 @@ use Rattle.blocks.proofs.Values.{unmapped}
 use Rattle.symplectic.specs.Sizes.{most_rows}
 use Rattle.actions.specs.Actions.{qubits, matrix}
 use Rattle.actions.proofs.Arrays.{qubits_le, matrix_length}
-use Rattle.symplectic.proofs.Work.{room_in_lem, part_words}
+use Rattle.symplectic.proofs.Work.{room_in_lem}
 use Rattle.residue.specs.Residue.{basis, core}
 use Rattle.residue.proofs.Core.{core_length, basis_within, core_within}
 use borrow.Author.Rules.{rules}
@@ -19,12 +19,6 @@ use Rattle.transvection_exact.proofs.searched.Goals.{Start}
 
 size : (c : goal.Start) → length (matrix c.args.a) ≡ qubits c.args.a + qubits c.args.a
 size c = let long : length c.args.a.rows ≡ most_rows = search (rules, unmapped) in matrix_length c.args.a long
-
-pub slice_bounds-from_core-end : goal.slice_bounds-from_core-end
-slice_bounds-from_core-end c = part_words c.residue_core-r.result c.start-b.result c.residue_core-r.new.basis c.start-b.ensures
-
-pub slice_bounds-from_core-end-2 : goal.slice_bounds-from_core-end-2
-slice_bounds-from_core-end-2 c = part_words c.residue_core-r.result c.start-c.result c.residue_core-r.new.core c.start-c.ensures
 
 pub from_core-requires : goal.from_core-requires
 from_core-requires c =

@@ -22,7 +22,7 @@ use Rattle.triangular.specs.declared.Ending.{Ending}
 use Rattle.search.proofs.LentLevels.{levels_least, back_rest}
 use Rattle.search.proofs.Draws.{Drawn, Moved, room_g, gram_kept, rest_gram, rest_small, room_b, basis_kept, within_b, child}
 use Rattle.search.proofs.+try_draw_try_draws_try_space.Goals as goal
-use Rattle.search.proofs.+try_draw_try_draws_try_space.Goals.{try_draw-After-is_alternating, try_draw-After-start-b, try_draws-After-dot, try_draws-After-low_ones-last, try_draws-After-next-c, try_draws-After-sum-g, try_draws-After-try_draw-o, try_space-After-ask-asked, try_space-After-try_draws-o}
+use Rattle.search.proofs.+try_draw_try_draws_try_space.Goals.{try_draw-After-is_alternating, try_draw-After-start-b, try_draws-After-dot, try_draws-After-low_ones-last, try_draws-After-next-c, try_draws-After-bitxor_assign, try_draws-After-try_draw-o, try_space-After-ask, try_space-After-try_draws-o}
 
 -- where the Gram rows are passed on, and both starts are known
 module _ (t : ℕ) (c : goal.try_draw-After-start-b t) where

@@ -1,5 +1,5 @@
 -- What `try_space` asks, and what its draws tell.
-use mathlib.Core.Path.{◌≡◌, refl, sym, ap, ◌∙◌, subst}
+use mathlib.Core.Path.{◌≡◌, sym, ap, ◌∙◌, subst}
 use mathlib.Core.List.{List}
 use Prim.Native.Nat.{ℕ, ◌+◌, ◌-◌, ◌≤◌, ◌<◌, ◌^◌}
 use lib.ListN.{length, take}
@@ -15,28 +15,19 @@ use Rattle.residue.specs.Residue.{form}
 use Rattle.triangular.specs.Spaces.{is_alternating_lem}
 use Rattle.spaces.specs.Levels.{gram_of}
 use Rattle.search.specs.inner.Levels.{found_in}
-use Rattle.triangular.specs.declared.Ending.{Ending}
 use Rattle.search.proofs.LentLevels.{levels_least}
 use borrow.Author.Rules.{rules}
-use mathlib.Core.Logic.{◌⊎◌, inl, inr}
 use lib.Seq.{length-take-le}
-use Rattle.triangular.specs.declared.Ending.TheVariants.{Found, Failed, Spent}
 use Rattle.triangular.proofs.Entries.{reduced_size, reduced_within}
 use Rattle.memory.specs.inner.Kept.{Fits}
 use Rattle.search.specs.declared.Asked.{Asked}
 use Rattle.search.specs.declared.Asked.TheVariants.{Open}
 use Rattle.search.specs.inner.Asked.{Known}
 use Rattle.search.proofs.+try_draw_try_draws_try_space.Goals as goal
-use Rattle.search.proofs.+try_draw_try_draws_try_space.Goals.{try_draw-After-is_alternating, try_draw-After-start-b, try_draws-After-dot, try_draws-After-low_ones-last, try_draws-After-next-c, try_draws-After-sum-g, try_draws-After-try_draw-o, try_space-After-ask-asked, try_space-After-try_draws-o}
-
--- the endings that an arm for the others leaves
-pub not_failed : (v : Ending) → (v ≡ Failed → ⊥) → (v ≡ Found) ⊎ (v ≡ Spent)
-not_failed Found h = inl refl
-not_failed Failed h = absurd (h refl)
-not_failed Spent h = inr refl
+use Rattle.search.proofs.+try_draw_try_draws_try_space.Goals.{try_draw-After-is_alternating, try_draw-After-start-b, try_draws-After-dot, try_draws-After-low_ones-last, try_draws-After-next-c, try_draws-After-bitxor_assign, try_draws-After-try_draw-o, try_space-After-ask, try_space-After-try_draws-o}
 
 -- the space is asked of
-module _ (t : ℕ) (c : goal.try_space-After-ask-asked t) where
+module _ (t : ℕ) (c : goal.try_space-After-ask t) where
   abbrev pub space_d : ℕ
   space_d = c.args.d
 
@@ -47,9 +38,9 @@ module _ (t : ℕ) (c : goal.try_space-After-ask-asked t) where
   space_room = room_in c.args.memory.now
 
   -- what the answer says of it
-  pub known : (x : Asked) → c.ask-asked.result ≡ x → (E : List ℕ) (M : List Entry) → Space E space_d (rows_in_lem c.args.basis.now) (rows_in_lem c.args.gram.now) → Carries c.args.looks c.args.memory.now c.args.used M
+  pub known : (x : Asked) → c.ask.result ≡ x → (E : List ℕ) (M : List Entry) → Space E space_d (rows_in_lem c.args.basis.now) (rows_in_lem c.args.gram.now) → Carries c.args.looks c.args.memory.now c.args.used M
       → Known x (holds space_d (entry_basis width B) M) (is_alternating_lem (form E) B)
-  known x is E M sp ca = subst (λ y. Known y (holds space_d (entry_basis width B) M) (is_alternating_lem (form E) B)) is (c.ask-asked.ensures.3 E M sp.0 ca.0)
+  known x is E M sp ca = subst (λ y. Known y (holds space_d (entry_basis width B) M) (is_alternating_lem (form E) B)) is (c.ask.ensures.3 E M sp.0 ca.0)
 
   -- its reduced basis
   pub size : length (entry_basis width B) ≡ space_d
@@ -59,24 +50,24 @@ module _ (t : ℕ) (c : goal.try_space-After-ask-asked t) where
   fits small = (omega (arith, size, c.requires.1), reduced_within width B width small)
 
   -- the space as it is then
-  pub again : (E : List ℕ) → Space E space_d (rows_in_lem c.args.basis.now) (rows_in_lem c.args.gram.now) → Space E space_d (rows_in_lem c.ask-asked.new.basis) (rows_in_lem c.ask-asked.new.gram)
-  again E sp = (ap (gram_of E) c.ask-asked.ensures.0 ∙ sp.0 ∙ sym c.ask-asked.ensures.1, subst (All (λ v. v < 2 ^ width)) (sym c.ask-asked.ensures.0) sp.1)
+  pub again : (E : List ℕ) → Space E space_d (rows_in_lem c.args.basis.now) (rows_in_lem c.args.gram.now) → Space E space_d (rows_in_lem c.ask.new.basis) (rows_in_lem c.ask.new.gram)
+  again E sp = (ap (gram_of E) c.ask.ensures.0 ∙ sp.0 ∙ sym c.ask.ensures.1, subst (All (λ v. v < 2 ^ width)) (sym c.ask.ensures.0) sp.1)
 
-  pub in_basis : space_d + space_d ≤ length (rows_in_lem c.ask-asked.new.basis)
-  in_basis = omega (arith, lent_same c.ask-asked.new.basis c.args.basis.now c.ask-asked.auto.basis, levels_least space_d, c.requires.2)
+  pub in_basis : space_d + space_d ≤ length (rows_in_lem c.ask.new.basis)
+  in_basis = omega (arith, lent_same c.ask.new.basis c.args.basis.now c.ask.auto.basis, levels_least space_d, c.requires.2)
 
 -- its draws were taken
 module _ (t : ℕ) (c : goal.try_space-After-try_draws-o t) where
-  pub open_is : c.ask-asked.result ≡ Open
+  pub open_is : c.ask.result ≡ Open
   open_is = search (rules, c.in-Open.is)
 
-  pub space_came : (E : List ℕ) (M : List Entry) → Space E (space_d t (goal.at.try_space-After-try_draws-o t c).After-ask-asked) (rows_in_lem c.args.basis.now) (rows_in_lem c.args.gram.now) → Carries c.args.looks c.args.memory.now c.args.used M
-      → Reports c.args.budget (draws_with (form E) width (space_room t (goal.at.try_space-After-try_draws-o t c).After-ask-asked) (search_with (form E) width (space_room t (goal.at.try_space-After-try_draws-o t c).After-ask-asked) (space_d t (goal.at.try_space-After-try_draws-o t c).After-ask-asked - 1)) (B t (goal.at.try_space-After-try_draws-o t c).After-ask-asked) (2 ^ space_d t (goal.at.try_space-After-try_draws-o t c).After-ask-asked - 1) 1 c.args.looks M)
-      c.try_draws-o.result.ending c.try_draws-o.result.looks (found_in (space_d t (goal.at.try_space-After-try_draws-o t c).After-ask-asked) (rows_in_lem c.try_draws-o.new.basis)) c.try_draws-o.new.memory c.try_draws-o.result.used
+  pub space_came : (E : List ℕ) (M : List Entry) → Space E (space_d t (goal.at.try_space-After-try_draws-o t c).After-ask) (rows_in_lem c.args.basis.now) (rows_in_lem c.args.gram.now) → Carries c.args.looks c.args.memory.now c.args.used M
+      → Reports c.args.budget (draws_with (form E) width (space_room t (goal.at.try_space-After-try_draws-o t c).After-ask) (search_with (form E) width (space_room t (goal.at.try_space-After-try_draws-o t c).After-ask) (space_d t (goal.at.try_space-After-try_draws-o t c).After-ask - 1)) (B t (goal.at.try_space-After-try_draws-o t c).After-ask) (2 ^ space_d t (goal.at.try_space-After-try_draws-o t c).After-ask - 1) 1 c.args.looks M)
+      c.try_draws-o.result.ending c.try_draws-o.result.looks (found_in (space_d t (goal.at.try_space-After-try_draws-o t c).After-ask) (rows_in_lem c.try_draws-o.new.basis)) c.try_draws-o.new.memory c.try_draws-o.result.used
   space_came E M sp ca =
-      subst (λ (l : List ℕ). Reports c.args.budget (draws_with (form E) width (space_room t (goal.at.try_space-After-try_draws-o t c).After-ask-asked) (search_with (form E) width (space_room t (goal.at.try_space-After-try_draws-o t c).After-ask-asked) (space_d t (goal.at.try_space-After-try_draws-o t c).After-ask-asked - 1)) l (2 ^ space_d t (goal.at.try_space-After-try_draws-o t c).After-ask-asked - 1) 1 c.args.looks M)
-      c.try_draws-o.result.ending c.try_draws-o.result.looks (found_in (space_d t (goal.at.try_space-After-try_draws-o t c).After-ask-asked) (rows_in_lem c.try_draws-o.new.basis)) c.try_draws-o.new.memory c.try_draws-o.result.used)
-      c.ask-asked.ensures.0 (c.try_draws-o.ensures.3 E M (again t (goal.at.try_space-After-try_draws-o t c).After-ask-asked E sp) ca)
+      subst (λ (l : List ℕ). Reports c.args.budget (draws_with (form E) width (space_room t (goal.at.try_space-After-try_draws-o t c).After-ask) (search_with (form E) width (space_room t (goal.at.try_space-After-try_draws-o t c).After-ask) (space_d t (goal.at.try_space-After-try_draws-o t c).After-ask - 1)) l (2 ^ space_d t (goal.at.try_space-After-try_draws-o t c).After-ask - 1) 1 c.args.looks M)
+      c.try_draws-o.result.ending c.try_draws-o.result.looks (found_in (space_d t (goal.at.try_space-After-try_draws-o t c).After-ask) (rows_in_lem c.try_draws-o.new.basis)) c.try_draws-o.new.memory c.try_draws-o.result.used)
+      c.ask.ensures.0 (c.try_draws-o.ensures.3 E M (again t (goal.at.try_space-After-try_draws-o t c).After-ask E sp) ca)
 
-  pub in_draws : space_d t (goal.at.try_space-After-try_draws-o t c).After-ask-asked + space_d t (goal.at.try_space-After-try_draws-o t c).After-ask-asked ≤ length (rows_in_lem c.try_draws-o.new.basis)
-  in_draws = omega (arith, lent_same c.try_draws-o.new.basis c.ask-asked.new.basis c.try_draws-o.auto.basis, in_basis t (goal.at.try_space-After-try_draws-o t c).After-ask-asked)
+  pub in_draws : space_d t (goal.at.try_space-After-try_draws-o t c).After-ask + space_d t (goal.at.try_space-After-try_draws-o t c).After-ask ≤ length (rows_in_lem c.try_draws-o.new.basis)
+  in_draws = omega (arith, lent_same c.try_draws-o.new.basis c.ask.new.basis c.try_draws-o.auto.basis, in_basis t (goal.at.try_space-After-try_draws-o t c).After-ask)

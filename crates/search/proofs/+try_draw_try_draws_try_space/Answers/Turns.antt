@@ -19,7 +19,7 @@ use Rattle.search.specs.inner.Levels.{found_in}
 use Rattle.search.proofs.LentLevels.{front_less}
 use Rattle.search.proofs.Reported.{grew_on}
 use Rattle.search.proofs.+try_draw_try_draws_try_space.Goals as goal
-use Rattle.search.proofs.+try_draw_try_draws_try_space.Goals.{try_draw-After-is_alternating, try_draw-After-start-b, try_draws-After-dot, try_draws-After-low_ones-last, try_draws-After-next-c, try_draws-After-sum-g, try_draws-After-try_draw-o, try_space-After-ask-asked, try_space-After-try_draws-o}
+use Rattle.search.proofs.+try_draw_try_draws_try_space.Goals.{try_draw-After-is_alternating, try_draw-After-start-b, try_draws-After-dot, try_draws-After-low_ones-last, try_draws-After-next-c, try_draws-After-bitxor_assign, try_draws-After-try_draw-o, try_space-After-ask, try_space-After-try_draws-o}
 use Rattle.search.proofs.+try_draw_try_draws_try_space.Answers.Places.{members, summed, sum_is, tested}
 
 -- what a draw came to
@@ -56,7 +56,7 @@ module _ (t : ℕ) (c : goal.try_draws-After-try_draw-o t) where
         o.result.ending o.result.looks (found_in (draws_d - 1) (drop (draws_d + draws_d) (rows_in_lem o.new.basis))) o.new.memory o.result.used) (room_same c.loop-last.memory c.args.memory.now c.loop-last.invariant.4)
         (subst (λ (l : List ℕ). Reports c.args.budget (search_with (form E) width (room_in c.loop-last.memory) (draws_d - 1) (complement (form E (times x l)) l) (c.loop-last.spent + 1) N)
         o.result.ending o.result.looks (found_in (draws_d - 1) (drop (draws_d + draws_d) (rows_in_lem o.new.basis))) o.new.memory o.result.used) same_b
-        (o.ensures.4 E N x draws_stands ca (sum_is t (goal.at.try_draws-After-try_draw-o t c).After-sum-g ∙ ap (times x) (sym same_g)) (sym c.dot.ensures ∙ c.if-dot.true)))
+        (o.ensures.4 E N x draws_stands ca (sum_is t (goal.at.try_draws-After-try_draw-o t c).After-bitxor_assign ∙ ap (times x) (sym same_g)) (sym c.dot.ensures ∙ c.if-dot.true)))
 
   -- the memory since the draws began
   pub grown : Grew c.args.memory.now c.args.used c.try_draw-o.new.memory c.try_draw-o.result.used

@@ -22,9 +22,6 @@ use Rattle.search.proofs.levels.begin.Goals as goal
 gram_size : (E : List ℕ) (k : ℕ) → length (gram_of E (units k)) ≡ k
 gram_size E k = gram_length E (units k) (gram_of E (units k)) refl ∙ units_length k
 
-pub loop-i-init : goal.loop-i-init
-loop-i-init c = (search rules, refl, refl, refl, refl)
-
 pub loop-i-preserved : goal.loop-i-preserved
 loop-i-preserved c =
     let s = c.args in

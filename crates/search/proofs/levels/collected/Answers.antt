@@ -1,7 +1,6 @@
 -- `collected` puts the draw of each level, by `collect_draw` and `collect_next`.
-use mathlib.Core.Path.{◌≡◌, refl, sym, ap, ◌∙◌}
+use mathlib.Core.Path.{◌≡◌, sym, ap, ◌∙◌}
 use Prim.Native.Nat.{◌+◌, ◌-◌, ◌<◌}
-use native.Mathlib.Nat.{zero-add}
 use native.Mathlib.Omega.{arith}
 use lib.ListN.{length}
 use Rattle.binar.specs.Rows.{val}
@@ -13,17 +12,11 @@ use Rattle.search.proofs.LentLevels.{levels_step, levels_least, found_length, co
 use borrow.Author.Rules.{rules}
 use Rattle.search.proofs.levels.collected.Goals as goal
 
-pub loop-i-init : goal.loop-i-init
-loop-i-init c =
-    let s = c.args in
-    let e : s.k - 0 ≡ s.k = omega arith in
-    (search rules, refl, ap (λ n. 0 + levels n) e ∙ zero-add (levels s.k), ap (λ n. found_in n (rows_in_lem s.basis.now)) (sym e), refl)
-
 pub draw_at-requires : goal.draw_at-requires
 draw_at-requires c =
     let s = c.args in
     let at = c.loop-i in
-    let i : at.i < s.k = omega (arith, c.lesser-n.ensures) in
+    let i : at.i < s.k = omega (arith, c.min-n.ensures) in
     omega (arith, at.invariant.2, levels_least (s.k - at.i), c.requires.1)
 
 pub overflow_add-at : goal.overflow_add-at
@@ -44,8 +37,8 @@ loop-i-preserved c =
     let at = c.loop-i in
     let B = rows_in_lem s.basis.now in
     let d = s.k - at.i in
-    let i : at.i < s.k = omega (arith, c.lesser-n.ensures) in
-    let room : at.i < length (rows_in_lem s.list.now) = omega (arith, c.lesser-n.ensures, c.rows_in.ensures) in
+    let i : at.i < s.k = omega (arith, c.min-n.ensures) in
+    let room : at.i < length (rows_in_lem s.list.now) = omega (arith, c.min-n.ensures, c.rows_in.ensures) in
     let e : d - 1 ≡ s.k - (at.i + 1) = omega arith in
     let f : at.at + d + d + levels (d - 1) ≡ at.at + levels d = omega (arith, levels_step d (omega arith)) in (
       search rules,
@@ -57,13 +50,10 @@ loop-i-preserved c =
           (c.draw_at.ensures ∙ collect_draw s.k at.i at.at B i at.invariant.3),
     )
 
-pub shape_of-list : goal.shape_of-list
-shape_of-list c = c.loop-i.invariant.1
-
 pub returns : goal.returns
 returns c =
     let s = c.args in
     let at = c.loop-i in
     let B = rows_in_lem s.basis.now in
     at.invariant.4
-    ∙ over_end (found_in s.k B) (rows_in_lem s.list.now) at.i (omega (arith, found_length s.k B, c.lesser-n.ensures, c.rows_in.ensures))
+    ∙ over_end (found_in s.k B) (rows_in_lem s.list.now) at.i (omega (arith, found_length s.k B, c.min-n.ensures, c.rows_in.ensures))

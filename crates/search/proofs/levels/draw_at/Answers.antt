@@ -21,9 +21,6 @@ slice_bounds-times-count c = omega (arith, c.start-to.ensures, c.start-from.ensu
 pub slice_bounds-times-start : goal.slice_bounds-times-start
 slice_bounds-times-start c = omega (arith, c.start-to.ensures, c.start-from.ensures, words_mono c.args.at (c.args.at + c.args.d) (omega arith))
 
-pub slice_bounds-times-end : goal.slice_bounds-times-end
-slice_bounds-times-end c = omega (arith, c.start-to.ensures)
-
 pub returns : goal.returns
 returns c =
     let s = c.args in

@@ -58,9 +58,6 @@ module _ (c : goal.After-holds) where
       → t ≡ (is_alternating_lem (form_in (rows_in_lem c.put_reduced.new.gram)) (below d) && ltb 0 d) → is_alternating_lem (form E) members ≡ t
   tells E e = tested_form d (rows_in_lem c.put_reduced.new.gram) gram_long E members (gram_same E e) c.requires.0
 
-pub slice_bounds-holds-end : goal.slice_bounds-holds-end
-slice_bounds-holds-end c = sym (length-take-le c.args.used c.args.memory.now c.requires.4)
-
 pub slice_bounds-holds-count : goal.slice_bounds-holds-count
 slice_bounds-holds-count c = omega (arith, c.start-c.ensures, c.start-b.ensures, words_mono c.args.d (c.args.d + c.args.d) (omega arith))
 

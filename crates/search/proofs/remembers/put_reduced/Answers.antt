@@ -13,9 +13,6 @@ use Rattle.search.proofs.LentLevels.{back_front, back_rest}
 use Rattle.search.proofs.Reduces.{reduced_front}
 use Rattle.search.proofs.remembers.put_reduced.Goals as goal
 
-pub slice_bounds-row_reduce_with_transform-end-3 : goal.slice_bounds-row_reduce_with_transform-end-3
-slice_bounds-row_reduce_with_transform-end-3 c = sym (length-take-le c.args.d (replicate width 0) (omega (arith, length-replicate {A = ℕ} width 0, c.requires.0)))
-
 pub returns : goal.returns
 returns c =
     let d = c.args.d in

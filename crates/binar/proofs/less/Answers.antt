@@ -1,8 +1,0 @@
--- `less` compares values, by what `val` says.
-use Rattle.binar.specs.Rows.{val}
-use Rattle.std.proofs.Common.{rules}
-use Rattle.binar.proofs.less.Goals as goal
-
-pub returns : goal.returns
-unfolding val
-returns c = search rules

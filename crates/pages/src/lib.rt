@@ -1,0 +1,88 @@
+// What the programs that print a job file share: the file read from an input, its printout written page by page, and what failed.
+// Not in the source.
+#![tactic(auto)]
+
+ghost use Rattle.std.specs.Prelude.{◌≤◌, ◌<◌, length, IfOk, IfSome};
+ghost use Rattle.job.specs.Files.{longest_file};
+
+use questions::Refusal;
+use reading::read_full;
+use std::io;
+use std::io::{Eprint, Print, Read};
+
+// One byte past the longest file is enough for the questions to refuse what is longer.
+pub const FILE_ROOM: usize = 65537;
+
+// How many bytes a page has room for.
+const PAGE_ROOM: usize = 65536;
+
+// No file that passes has more lines than bytes.
+const MOST_LINES: u64 = 65536;
+
+// Writes the page that begins at line `from`, and answers how many lines it has; none where nothing more is to be written.
+pub fn write_page(rt: &impl Print, file: &[u8], from: u64) -> io::Result<Option<u64>>
+    ensures { IfOk result (λ o. IfSome o (λ n. (0 < n) × (n ≤ longest_file))) }
+{
+    let mut out = [0u8; PAGE_ROOM];
+    match printout::print_page(file, from, &mut out) {
+        Ok(Some(page)) => {
+            rt.write_all(&out[..page.bytes as usize])?;
+            Ok(Some(page.count))
+        }
+        Ok(None) => Ok(None),
+        // the one line of a refused file
+        Err(refused) => {
+            rt.write_all(lines::file_line(refused.number()).as_slice())?;
+            Ok(None)
+        }
+    }
+}
+
+fn write_pages(rt: &impl Print, file: &[u8]) -> io::Result<()> {
+    let mut from: u64 = 0;
+    while from < MOST_LINES {
+        match write_page(rt, file, from)? {
+            Some(count) => from += count,
+            None => break,
+        }
+    }
+    Ok(())
+}
+
+// Answers an error unless the input has ended: a read that fails is not its end.
+fn at_end(input: &mut impl Read) -> io::Result<()> {
+    let mut more = [0u8; 1];
+    if input.read(&mut more)? != 0 {
+        return Err(io::Error::other("more behind its end"));
+    }
+    Ok(())
+}
+
+// Reads a whole file, as far as there is room, and answers how many bytes it has.
+fn read_file(input: &mut impl Read, file: &mut [u8]) -> io::Result<usize>
+    ensures { IfOk result (λ n. n ≤ length file.new) }
+{
+    let n = read_full(input, file);
+    if n < file.len() {
+        at_end(input)?;
+    }
+    Ok(n)
+}
+
+// Says on standard error what failed. Where that is not written either, nothing more is said.
+fn fail(rt: &impl Eprint, stream: &str, e: io::Error) {
+    let _ = eprintln!(rt; "turnlist: {stream}: {e}");
+}
+
+// Reads a job file and writes its printout, page by page; where that fails, says so on standard error.
+pub fn print_file(rt: &(impl Print + Eprint), input: &mut impl Read) {
+    let mut file = [0u8; FILE_ROOM];
+    match read_file(input, &mut file) {
+        Ok(n) => {
+            if let Err(e) = write_pages(rt, &file[..n]) {
+                fail(rt, "standard output", e);
+            }
+        }
+        Err(e) => fail(rt, "standard input", e),
+    }
+}

@@ -1,0 +1,74 @@
+// Records counted by their kinds, and the counts printed.
+ghost use Rattle.std.specs.Prelude.{◌≡◌, ◌<◌, IfSome, slice_get, slice_set};
+ghost use Rattle.records.specs.Scores.{one_more, counted_in};
+
+use std::io::Print;
+use std::{fmt, io};
+
+// What the call of a record shows: its kind, and whether all that it answers and leaves is as the record has it.
+#[derive(Clone, Copy)]
+pub struct Verdict {
+    pub kind: usize,
+    pub agrees: bool,
+}
+
+// How many records of a kind agree and differ.
+#[derive(Clone, Copy, Default, PartialEq, Eq)]
+pub struct Counts {
+    pub agree: u64,
+    pub differ: u64,
+}
+
+impl fmt::Display for Counts {
+    fn fmt<W: fmt::Write>(&self, f: &mut fmt::Formatter<W>) -> fmt::Result {
+        write!(f, "{} agree, {} differ", self.agree, self.differ)
+    }
+}
+
+// The counts of each kind, and how many records were not read.
+#[derive(Clone, Copy)]
+pub struct Score<const KINDS: usize> {
+    pub kinds: [Counts; KINDS],
+    pub unread: u64,
+}
+
+impl<const KINDS: usize> Score<KINDS> {
+    // Nothing counted.
+    pub fn new() -> Score<KINDS>
+        ensures { result.unread ≡ 0 }
+    {
+        Score {
+            kinds: [Counts::default(); KINDS],
+            unread: 0,
+        }
+    }
+
+    // Counts a record that was not read.
+    pub fn one_unread(&mut self)
+        ensures { self.new ≡ record { kinds = self.old.kinds; unread = one_more self.old.unread } }
+    {
+        self.unread = self.unread.saturating_add(1);
+    }
+
+    // Counts a record whose call was made.
+    pub fn count(&mut self, v: Verdict)
+        requires { v.kind < KINDS }
+        ensures kinds { IfSome (slice_get self.old.kinds v.kind) (λ t. self.new.kinds ≡ slice_set self.old.kinds v.kind (counted_in t v.agrees)) }
+        ensures unread { self.new.unread ≡ self.old.unread }
+    {
+        let k = &mut self.kinds[v.kind];
+        if v.agrees {
+            k.agree = k.agree.saturating_add(1);
+        } else {
+            k.differ = k.differ.saturating_add(1);
+        }
+    }
+
+    // Prints how many were not read, if any were not.
+    pub fn print_unread(&self, rt: &impl Print) -> io::Result<()> {
+        if self.unread == 0 {
+            return Ok(());
+        }
+        println!(rt; "unread {}", self.unread)
+    }
+}
