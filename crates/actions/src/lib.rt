@@ -30,6 +30,7 @@ pub fn from_words(n: u64, words: &[u64]) -> Action
     ensures { (qubits result ≡ capped_of n) × (matrix result ≡ padded (capped_of n + capped_of n) (rows_of_words n words.now)) }
 {
     let mut rows = [Row::zero(); MOST_ROWS];
+    // by number: a zip over iter_mut tells nothing of its elements
     for i in 0..words.len().min(MOST_ROWS) {
         rows[i] = Row::from(words[i]);
     }
@@ -42,6 +43,7 @@ pub fn store(a: Action, out: &mut [u64])
 {
     let n = symplectic::capped(a.n);
     let count = (n + n).min(out.len());
+    // by number: a zip over iter_mut tells nothing of its elements
     for i in 0..count {
         out[i] = blocks::word(a.rows[i]);
     }

@@ -40,9 +40,9 @@ fn greedy_identity(rt: &impl Print, name: &str, out: &mut [u64]) -> io::Result<(
 fn sequence(rt: &impl Print, name: &str, bytes: &[u8]) -> io::Result<()> {
     let mut out = [0u64; 4];
     let sheet = sheets::six_gates();
-    let a = questions::figures_of(gates::gate_action(2, &sheet, bytes, &mut out));
-    print_answer(rt, name, a)?;
-    if a.number == 0 {
+    let action = gates::gate_action(2, &sheet, bytes, &mut out);
+    print_answer(rt, name, questions::figures_of(action))?;
+    if action.is_ok() {
         print_rows(rt, &out)?;
     }
     println!(rt)
@@ -60,7 +60,7 @@ fn minimal(
     let a = transvection_exact::figures_of(least);
     print_answer(rt, name, a)?;
     print!(rt; " {}", a.looks)?;
-    if a.number == 0 {
+    if least.is_ok() {
         print_rows(rt, out)?;
     }
     println!(rt)

@@ -3,10 +3,11 @@
 #![tactic(auto, unfolding(crate::specs::Words::rows_of_words, crate::specs::Words::words_for, crate::specs::Words::word_of))]
 
 ghost use Rattle.std.specs.Prelude.{◌≡◌, min, length, get_or, set};
-ghost use Rattle.binar.specs.Rows.{val};
-ghost use Rattle.blocks.specs.Words.{word_of, rows_in_lem, words_for};
+ghost use Rattle.binar.specs.Rows.{val, width};
+ghost use Rattle.blocks.specs.Matrices.{units};
+ghost use Rattle.blocks.specs.Words.{word_of, rows_in_lem, words_for, over};
 
-use binar::Row;
+use binar::{Row, WIDTH};
 
 // The word that a row takes.
 pub fn word(a: Row) -> u64
@@ -45,5 +46,16 @@ pub fn put(w: &mut [u64], i: usize, v: Row)
 {
     if i < w.len() {
         w[i] = v.word();
+    }
+}
+
+// Puts the first k unit rows, as many as a row has columns, over the rows of such words from their start.
+pub fn put_units(k: usize, w: &mut [u64])
+    ensures { rows_in_lem w.new ≡ over (units (min k width)) (rows_in_lem w.old) }
+{
+    let count = k.min(WIDTH).min(rows_in(&w[..]));
+    // by number: rows are put in lent words
+    for i in 0..count {
+        put(w, i, Row::unit(i));
     }
 }

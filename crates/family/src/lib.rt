@@ -136,11 +136,8 @@ impl Space {
         requires { self.old.d ≤ length (rows_in_lem core.now) }
         ensures { (self.new.d ≡ self.old.d) × (members self.new ≡ units self.old.d) × (take self.old.d (rows_in_lem self.new.forms) ≡ take self.old.d (rows_in_lem core.now)) }
     {
-        for i in 0..self.d {
-            let member = Row::unit(i);
-            let row = blocks::row(core, i);
-            self.put(i, Picked { member, row });
-        }
+        blocks::put_units(self.d, &mut self.basis);
+        matrices::put_front(self.d, core, &mut self.forms);
     }
 
     // Member j, the first that f has a dot with, is dropped and added to each later one that f has a dot with. Those behind it move up by one.
@@ -151,6 +148,7 @@ impl Space {
     {
         let m = self.at(j);
         let last = self.d - 1;
+        // by number: rows of one slice are read, and others put
         for n in j..last {
             let y = self.at(n + 1);
             let hit = f.dot(y.member);
@@ -186,6 +184,7 @@ impl Space {
         let f = self.at(0);
         let p = self.at(j);
         let k = self.d - 2;
+        // by number: rows of one slice are read, and others put
         for n in 0..k {
             let i = index_past_pair(n, j);
             self.put_cleared(n, i, f, p);

@@ -124,6 +124,7 @@ impl Line {
         let high = v.shift_down(n);
         let m = n.min(LINE_ROOM);
         let _ = &self.bytes; // opens the line: its bytes have room
+        // by number: a qubit has two bits of a row
         for q in 0..m {
             self.push(u8::from(letters::of_bits(v.bit(q), high.bit(q))));
         }

@@ -28,6 +28,7 @@ pub fn multiply(n: u64, a: &[u64], b: &[u64], out: &mut [u64])
     ensures { out.new ≡ laid n (matmul (rows_in_lem a.now) (rows_in_lem b.now)) out.old }
 {
     let k = blocks::rows_in(a).min(out.len());
+    // by number: how many words a row takes is known to blocks alone
     for i in 0..k {
         out[i] = blocks::word(times(blocks::row(a, i), b));
     }
@@ -38,6 +39,7 @@ pub fn lay(n: u64, w: &[u64], out: &mut [u64])
     ensures { out.new ≡ laid n (rows_in_lem w.now) out.old }
 {
     let k = blocks::rows_in(w).min(out.len());
+    // by number: how many words a row takes is known to blocks alone
     for i in 0..k {
         out[i] = blocks::word(blocks::row(w, i));
     }

@@ -1,4 +1,4 @@
--- Numbers in bytes: byte by byte, past the end, in a part of a part, and their bounds; parts, and a byte of a part.
+-- Numbers in bytes: byte by byte, past the end, in a part of a part, and their bounds; parts.
 -- Assumes nothing.
 use mathlib.Core.Path.{◌≡◌, refl, sym, ap, ap₂, ◌∙◌}
 use mathlib.Core.List.{List, [], ◌∷◌}
@@ -7,7 +7,7 @@ use Prim.Native.Nat.{ℕ, zero, suc, ◌+◌, ◌*◌, ◌-◌, ◌^◌, ◌≤�
 use native.Mathlib.Omega.{arith}
 use native.Mathlib.Nat.{pow-suc, pow-le-pow_right, zero-add, suc-add, sub_self}
 use lib.ListN.{length, get_or, take, drop, length-drop, drop_of_length-le}
-use lib.Seq.{take-nil, drop-nil, take-take, drop-drop, length-take-le, get_or-take, get_or-drop}
+use lib.Seq.{take-nil, drop-nil, take-take, drop-drop, length-take-le}
 use Rattle.std.proofs.lemmas.Bool.{cases_lt}
 use Rattle.numbers.specs.Numbers.{little_endian, part, number}
 
@@ -78,10 +78,6 @@ part_cut bytes offset size = let left : offset + size - offset ≡ size = omega 
 pub part_length : (bytes : List ℕ) (offset size : ℕ) → offset + size ≤ length bytes → length (part bytes offset size) ≡ size
 unfolding part
 part_length bytes offset size h = length-take-le size (drop offset bytes) (omega (arith, length-drop offset bytes))
-
-pub part_at : (bytes : List ℕ) (offset size i : ℕ) → i < size → get_or (part bytes offset size) i 0 ≡ get_or bytes (offset + i) 0
-unfolding part
-part_at bytes offset size i h = get_or-take size (drop offset bytes) i 0 h ∙ get_or-drop offset bytes i 0
 
 -- numbers of the front of bytes, and of what is left of it
 pub number_front : (bytes : List ℕ) (size : ℕ) → little_endian (take size bytes) ≡ number bytes 0 size

@@ -3,7 +3,7 @@
 use mathlib.Core.Path.{◌≡◌, refl, sym, ap, ◌∙◌, subst}
 use mathlib.Core.List.{List, ◌++◌}
 use mathlib.Core.Logic.{inl, inr}
-use Prim.Native.Nat.{ℕ, zero, suc, ◌+◌, ◌*◌, ◌≤◌}
+use Prim.Native.Nat.{ℕ, zero, suc, ◌+◌, ◌-◌, ◌*◌, ◌≤◌, ◌<◌}
 use native.Mathlib.Omega.{arith}
 use lib.ListN.{length, take, drop, replicate}
 use Rattle.symplectic.specs.Sizes.{max_qubits, most_rows}
@@ -17,10 +17,14 @@ use Rattle.gates.specs.declared.GateActionError.TheVariants.{TooManyQubits, Wron
 use Rattle.gates.specs.Answers.{gate_action_number, figures_of_lem}
 use Rattle.gates.specs.Sequences.{table_reply}
 use Rattle.numbers.specs.Numbers.{part}
-use Rattle.job.specs.Files.{qubit_count_lem, Entry, part_size_lem}
-use Rattle.job.proofs.Entries.{part_rows}
+use Rattle.numbers.proofs.Numbers.{part_cut}
+use Rattle.job.specs.Files.{qubit_count_lem, entry_count_lem, Entry, entry, part_size_lem, entry_passes_lem, file_questions_lem}
+use Rattle.job.specs.Answers.{part_kind_lem}
+use Rattle.job.specs.declared.Kind.TheVariants as kind
+use Rattle.job.proofs.Entries.{part_rows, rows_kind, gates_kind}
+use Rattle.job.proofs.Checks.{entry_known, passed_entry}
 use Rattle.printout.specs.declared.EntryError.{EntryError}
-use Rattle.printout.specs.declared.EntryError.TheVariants as entry
+use Rattle.printout.specs.declared.EntryError.TheVariants as error
 use Rattle.printout.specs.Printout.{blank_words, words_of_bytes, action_by, entry_action}
 use Rattle.printout.specs.inner.Held.{Held}
 use Rattle.printout.proofs.Words.{words_length}
@@ -50,7 +54,7 @@ module _ (n : ℕ) (few : n ≤ max_qubits) (bytes : List ℕ) (r : Result ℕ G
   gates_loaded count e left kept is =
       (number_is ∙ ap (λ (x : Result ℕ GateActionError). (figures_of_lem x).number) e, sym (left_words (n + n) most_rows fits left kept (table_reply n bytes) is))
 
-  pub gates_refused : (e : GateActionError) → r ≡ Err e → Held n (table_reply n bytes (blank_words (n + n))) (Err (entry.Gates e))
+  pub gates_refused : (e : GateActionError) → r ≡ Err e → Held n (table_reply n bytes (blank_words (n + n))) (Err (error.Gates e))
   unfolding Held
   gates_refused e is = inl (gate_action_number_lem e, number_is ∙ ap (λ (x : Result ℕ GateActionError). (figures_of_lem x).number) is)
 
@@ -79,20 +83,48 @@ module _ (file : List ℕ) (e : Entry) where
       go (suc k) z = refl
 
   module _ (z : e.kind ≡ 0) where
-    pub held_miscounted : (e.count ≡ qubit_count_lem file + qubit_count_lem file → ⊥) → Held (qubit_count_lem file) (entry_action file e) (Err entry.WrongRowCount)
+    held_miscounted : (e.count ≡ qubit_count_lem file + qubit_count_lem file → ⊥) → Held (qubit_count_lem file) (entry_action file e) (Err error.WrongRowCount)
     unfolding Held
     held_miscounted h =
-        subst (λ (a : Reply). Held n a (Err entry.WrongRowCount)) (sym (action_given z))
+        subst (λ (a : Reply). Held n a (Err error.WrongRowCount)) (sym (action_given z))
         (inr (refl, (refl, λ m. h (sym (words_length e.count (part file e.offset (8 * e.count))) ∙ m))))
 
-    pub held_given : (rows : List ℕ) → e.count ≡ qubit_count_lem file + qubit_count_lem file → take e.count rows ≡ words_of_bytes e.count (part file e.offset (8 * e.count))
+    held_given : (rows : List ℕ) → e.count ≡ qubit_count_lem file + qubit_count_lem file → take e.count rows ≡ words_of_bytes e.count (part file e.offset (8 * e.count))
         → Held (qubit_count_lem file) (entry_action file e) (Ok rows)
     unfolding Held
     held_given rows c w =
         subst (λ (a : Reply). Held n a (Ok rows)) (sym (action_given z))
         (refl, sym w ∙ ap (λ (k : ℕ). take k rows) c)
 
-  pub held_made : (e.kind ≡ 0 → ⊥) → (l : Result (List ℕ) EntryError)
+  held_made : (e.kind ≡ 0 → ⊥) → (l : Result (List ℕ) EntryError)
       → Held (qubit_count_lem file) (table_reply (qubit_count_lem file) (part file e.offset (part_size_lem e)) (blank_words (qubit_count_lem file + qubit_count_lem file))) l
       → Held (qubit_count_lem file) (entry_action file e) l
   held_made h l = subst (λ (a : Reply). Held n a l) (sym (action_made h))
+
+-- of entry i, as the code reads it
+module _ (file : List ℕ) (i : ℕ) (e : Entry) (read : e ≡ entry file i) where
+  -- its part lies within the file, since the file passed
+  pub part_within : file_questions_lem file ≡ 0 → i < entry_count_lem file → e.offset + part_size_lem e ≤ length file
+  part_within passes there = (entry_known file e (ap (entry_passes_lem file) read ∙ passed_entry file passes i there)).2
+
+  module _ (n : ℕ) (q : n ≡ qubit_count_lem file) where
+    of_entry : (l : Result (List ℕ) EntryError) → Held (qubit_count_lem file) (entry_action file e) l → Held n (entry_action file (entry file i)) l
+    of_entry l h = subst (λ (k : ℕ). Held k (entry_action file (entry file i)) l) (sym q) (subst (λ (x : Entry). Held (qubit_count_lem file) (entry_action file x) l) read h)
+
+    twice : n + n ≡ qubit_count_lem file + qubit_count_lem file
+    twice = ap (λ (k : ℕ). k + k) q
+
+    pub rows_miscounted : kind.Rows ≡ part_kind_lem e.kind → (e.count ≡ n + n → ⊥) → Held n (entry_action file (entry file i)) (Err error.WrongRowCount)
+    rows_miscounted k h = of_entry (Err error.WrongRowCount) (held_miscounted file e (rows_kind e.kind k) (λ m. h (m ∙ sym twice)))
+
+    pub rows_given : kind.Rows ≡ part_kind_lem e.kind → e.count ≡ n + n → (rows : List ℕ) → take e.count rows ≡ words_of_bytes e.count (part file e.offset (8 * e.count))
+        → Held n (entry_action file (entry file i)) (Ok rows)
+    rows_given k c rows w = of_entry (Ok rows) (held_given file e (rows_kind e.kind k) rows (c ∙ twice) w)
+
+    pub gates_made : kind.Gates ≡ part_kind_lem e.kind → (size : ℕ) → size ≡ part_size_lem e → (l : Result (List ℕ) EntryError)
+        → Held n (table_reply n (take (e.offset + size - e.offset) (drop e.offset file)) (blank_words (n + n))) l → Held n (entry_action file (entry file i)) l
+    gates_made k size s l h =
+        of_entry l
+        (held_made file e (gates_kind e.kind k) l
+        (subst (λ (m : ℕ). Held m (table_reply m (part file e.offset (part_size_lem e)) (blank_words (m + m))) l) q
+        (subst (λ (bytes : List ℕ). Held n (table_reply n bytes (blank_words (n + n))) l) (part_cut file e.offset size ∙ ap (part file e.offset) s) h)))

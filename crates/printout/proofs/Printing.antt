@@ -1,6 +1,6 @@
 -- A line by what is held of its entry's action, and by what a call answers and leaves.
 -- Assumes nothing.
-use mathlib.Core.Path.{◌≡◌, refl, sym, ap, ◌∙◌}
+use mathlib.Core.Path.{◌≡◌, refl, sym, ap, ◌∙◌, subst}
 use mathlib.Core.List.{List, [], ◌++◌}
 use mathlib.Core.Logic.{⊎_elim}
 use Prim.Native.Nat.{ℕ, zero, suc, ◌+◌, ◌*◌, ◌^◌, ◌≤◌, ◌<◌}
@@ -40,11 +40,11 @@ module _ (file : List ℕ) (i : ℕ) (which : Name) where
   whole k = line m i name (unless_refused_action action (call m) k)
 
   module _ (n : ℕ) (q : n ≡ qubit_count_lem file) where
-    pub line_passed : (rows : List ℕ) → Held (qubit_count_lem file) (entry_action file (entry file i)) (Ok rows)
+    pub line_passed : (rows : List ℕ) → Held n (entry_action file (entry file i)) (Ok rows)
         → line n i (name_bytes which) (call_reply which n (take (n + n) rows) (list_words n)) ≡ entry_line file i which
     unfolding entry_line Held
     line_passed rows a =
-        ap (λ (k : ℕ). line k i name (call k (take (k + k) rows))) q ∙ ap (λ (r : List ℕ). line m i name (call m r)) (sym a.1) ∙ ap whole (sym a.0)
+        ap (λ (r : List ℕ). line n i name (call n r)) (sym a.1) ∙ ap (λ (k : ℕ). line k i name (call k action.words)) q ∙ ap whole (sym a.0)
 
     -- another count of rows is refused with 2
     refused_by : m ≤ max_qubits → (number : ℕ) → RefusedBy m action number → line n i name (refused number 0 []) ≡ entry_line file i which
@@ -60,10 +60,10 @@ module _ (file : List ℕ) (i : ℕ) (which : Name) where
         own zero z = absurd (z refl)
         own (suc k) z = refl
 
-    pub line_refused : qubit_count_lem file ≤ max_qubits → (e : EntryError) → Held (qubit_count_lem file) (entry_action file (entry file i)) (Err e)
+    pub line_refused : n ≤ max_qubits → (e : EntryError) → Held n (entry_action file (entry file i)) (Err e)
         → line n i (name_bytes which) (refused (entry_number e) 0 []) ≡ entry_line file i which
     unfolding Held
-    line_refused few e held = refused_by few (entry_number e) held
+    line_refused few e held = refused_by (omega (arith, q)) (entry_number e) (subst (λ (k : ℕ). RefusedBy k action (entry_number e)) q held)
 
 -- ---- by the figures that a call answers and the words that it leaves, where it is lent the first 4n + 2 of blank words
 

@@ -70,13 +70,14 @@ fn action_rows(file: &[u8], offset: u64, m: u64) -> [u64; MOST_ROWS]
     ensures { take m result ≡ words_of_bytes m (part file.now offset (8 * m)) }
 {
     let mut rows: [u64; MOST_ROWS] = [0; MOST_ROWS];
-    for k in 0..m {
-        rows[k as usize] = job::word_at(file, offset, k);
+    for (k, row) in rows[..m as usize].iter_mut().enumerate() {
+        *row = job::word_at(file, offset, k as u64);
     }
     rows
 }
 
 // The action of a sequence of our six gates.
+#[tactic(auto, using(crate::proofs::Lent::lent_length, crate::proofs::Holding::gates_refused, gates::proofs::SixGates::six_as_table))]
 fn gate_rows(n: u64, bytes: &[u8]) -> Result<[u64; MOST_ROWS], EntryError>
     requires { n ≤ max_qubits }
     ensures { Held n (table_reply n bytes.now (blank_words (n + n))) result }
@@ -88,33 +89,10 @@ fn gate_rows(n: u64, bytes: &[u8]) -> Result<[u64; MOST_ROWS], EntryError>
     Ok(rows)
 }
 
-// The action of entry i. Another count of rows than 2n both calls refuse with 2.
-fn entry_rows(file: &[u8], i: u64) -> Result<[u64; MOST_ROWS], EntryError>
-    requires { (file_questions_lem file.now ≡ 0) × (i < entry_count_lem file.now) }
-    ensures { Held (qubit_count_lem file.now) (entry_action file.now (entry file.now i)) result }
-{
-    let n = job::qubit_count(file);
-    let e = job::entry_at(file, i);
-    let offset = e.offset as u64;
-    let count = e.count as u64;
-    match e.part_kind() {
-        Kind::Rows => {
-            if count != n + n {
-                return Err(EntryError::WrongRowCount);
-            }
-            Ok(action_rows(file, offset, count))
-        }
-        Kind::Gates => {
-            let from = offset as usize;
-            let to = (offset + e.part_size()) as usize;
-            gate_rows(n, &file[from..to])
-        }
-    }
-}
-
 // ---- the lines of an entry
 
 // The line of a refusal before either call.
+#[tactic(auto, using(lines::proofs::Fits::line_figures))]
 fn refusal_line(n: u64, i: u64, which: Name, number: u64) -> Line
     requires { n ≤ max_qubits }
     ensures { result ≡ line n i (name_bytes which) (refused number 0 []) }
@@ -140,6 +118,7 @@ fn call(which: Name, n: u64, rows: &[u64], out: &mut [u64]) -> Figures
 }
 
 // The line of the list of an action.
+#[tactic(auto, using(crate::proofs::Lent::lent_length, crate::proofs::Lent::left_room, crate::proofs::Lent::left_count))]
 fn answer_line(n: u64, i: u64, which: Name, rows: [u64; MOST_ROWS]) -> Line
     requires { n ≤ max_qubits }
     ensures { result ≡ line n i (name_bytes which) (call_reply which n (take (n + n) rows) (list_words n)) }
@@ -151,69 +130,115 @@ fn answer_line(n: u64, i: u64, which: Name, rows: [u64; MOST_ROWS]) -> Line
     lines::entry_line(n, i, which, figures, &out[..k])
 }
 
-// The line of a name, of entry i.
-fn line_of(file: &[u8], i: u64, which: Name) -> Line
-    requires { (file_questions_lem file.now ≡ 0) × (i < entry_count_lem file.now) }
-    ensures { result ≡ entry_line file.now i which }
-{
-    let n = job::qubit_count(file);
-    match entry_rows(file, i) {
-        Ok(rows) => answer_line(n, i, which, rows),
-        Err(e) => refusal_line(n, i, which, e.number()),
-    }
+// ---- the entries, lines and pages of a file
+
+// A file that passes its questions, its count of qubits, and how many lines its printout has.
+#[derive(Clone, Copy)]
+struct Job<'a> {
+    file: &'a [u8],
+    n: u64,
+    lines: u64,
+    ghost passes: { file_questions_lem file.now ≡ 0 },
+    ghost sized: { n ≡ qubit_count_lem file.now },
+    ghost few: { n ≤ max_qubits },
+    ghost counted: { lines ≡ 2 * entry_count_lem file.now },
 }
 
-// ---- pages
-
-// Line k of the printout.
-fn line_at(file: &[u8], k: u64) -> Line
-    requires { (file_questions_lem file.now ≡ 0) × (k < 2 * entry_count_lem file.now) }
-    ensures { result ≡ get_or (file_lines file.now) k [] }
-{
-    let i = k / 2;
-    if k % 2 == 0 {
-        line_of(file, i, Name::Min)
-    } else {
-        line_of(file, i, Name::Greedy)
-    }
-}
-
-// The lines from `from` on, as many as `out` has room for, of a file that passes its questions.
-fn fill_page(file: &[u8], from: u64, last: u64, out: &mut [u8]) -> Page
-    requires { (file_questions_lem file.now ≡ 0) × (last ≡ 2 * entry_count_lem file.now) × (from < last) }
-    ensures answered { answer_of (Ok (Some result)) ≡ (page_reply file.now from out.old).answer }
-    ensures left { out.new ≡ (page_reply file.now from out.old).bytes }
-    ensures onward { line_room ≤ length out.old → Onward (answer_of (Ok (Some result))) }
-{
-    let mut used: usize = 0;
-    let mut k = from;
-    while k < last {
-        let l = line_at(file, k);
-        let size = l.len();
-        if out.len() - used < size {
-            break;
+impl<'a> Job<'a> {
+    // The action of entry i. Another count of rows than 2n both calls refuse with 2.
+    #[tactic(auto, using(crate::proofs::Holding::part_within, crate::proofs::Holding::rows_miscounted, crate::proofs::Holding::rows_given, crate::proofs::Holding::gates_made))]
+    fn entry_rows(&self, i: u64) -> Result<[u64; MOST_ROWS], EntryError>
+        requires { i < entry_count_lem self.now.file.now }
+        ensures { Held self.now.n (entry_action self.now.file.now (entry self.now.file.now i)) result }
+    {
+        let e = job::entry_at(self.file, i);
+        let offset = e.offset as u64;
+        let count = e.count as u64;
+        match e.part_kind() {
+            Kind::Rows => {
+                if count != self.n + self.n {
+                    return Err(EntryError::WrongRowCount);
+                }
+                Ok(action_rows(self.file, offset, count))
+            }
+            Kind::Gates => {
+                let from = offset as usize;
+                let to = (offset + e.part_size()) as usize;
+                gate_rows(self.n, &self.file[from..to])
+            }
         }
-        l.lay(&mut out[used..]);
-        used += size;
-        k += 1;
     }
-    Page {
-        count: k - from,
-        bytes: used as u64,
+
+    // The line of a name, of entry i.
+    #[tactic(auto, using(crate::proofs::Printing::line_passed, crate::proofs::Printing::line_refused))]
+    fn line_of(&self, i: u64, which: Name) -> Line
+        requires { i < entry_count_lem self.now.file.now }
+        ensures { result ≡ entry_line self.now.file.now i which }
+    {
+        match self.entry_rows(i) {
+            Ok(rows) => answer_line(self.n, i, which, rows),
+            Err(e) => refusal_line(self.n, i, which, e.number()),
+        }
+    }
+
+    // Line k of the printout.
+    #[tactic(auto, using(crate::proofs::Numbered::file_named))]
+    fn line_at(&self, k: u64) -> Line
+        requires { k < self.now.lines }
+        ensures { result ≡ get_or (file_lines self.now.file.now) k [] }
+    {
+        let i = k / 2;
+        if k % 2 == 0 {
+            self.line_of(i, Name::Min)
+        } else {
+            self.line_of(i, Name::Greedy)
+        }
+    }
+
+    // The lines from `from` on, as many as `out` has room for.
+    #[tactic(auto, using(crate::proofs::Numbered::file_lines_lem, crate::proofs::Filling::filled_none, crate::proofs::Filling::filled_last, crate::proofs::Filling::filled_full, crate::proofs::Paging::page_filled))]
+    fn fill_page(&self, from: u64, out: &mut [u8]) -> Page
+        requires { from < self.now.lines }
+        ensures answered { answer_of (Ok (Some result)) ≡ (page_reply self.now.file.now from out.old).answer }
+        ensures left { out.new ≡ (page_reply self.now.file.now from out.old).bytes }
+        ensures onward { line_room ≤ length out.old → Onward (answer_of (Ok (Some result))) }
+    {
+        let mut used: usize = 0;
+        for k in from..self.lines {
+            let l = self.line_at(k);
+            let size = l.len();
+            if out.len() - used < size {
+                return Page {
+                    count: k - from,
+                    bytes: used as u64,
+                };
+            }
+            l.lay(&mut out[used..]);
+            used += size;
+        }
+        Page {
+            count: self.lines - from,
+            bytes: used as u64,
+        }
     }
 }
 
 // The lines of the printout from line `from` on, as many whole ones as `out` has room for, or none where there is no such line. Line 2i is
 // the minimal list of entry i, line 2i + 1 its greedy list. A page with room for the longest line has a line, where one is left.
+#[tactic(auto, using(crate::proofs::Numbered::file_lines_lem, crate::proofs::Paging::page_error, crate::proofs::Paging::page_past, job::proofs::Checks::passed_qubits))]
 pub fn print_page(file: &[u8], from: u64, out: &mut [u8]) -> Result<Option<Page>, FileError>
     ensures answered { answer_of result ≡ (page_reply file.now from out.old).answer }
     ensures left { out.new ≡ (page_reply file.now from out.old).bytes }
     ensures onward { line_room ≤ length out.old → Onward (answer_of result) }
 {
     job::file_questions(file)?;
-    let last = 2 * job::entry_count(file);
-    if last <= from {
+    let job = Job {
+        file,
+        n: job::qubit_count(file),
+        lines: 2 * job::entry_count(file),
+    };
+    if job.lines <= from {
         return Ok(None);
     }
-    Ok(Some(fill_page(file, from, last, out)))
+    Ok(Some(job.fill_page(from, out)))
 }

@@ -1,5 +1,5 @@
 // Records counted by their kinds, and the counts printed.
-ghost use Rattle.std.specs.Prelude.{◌≡◌, ◌<◌, IfSome, slice_get, slice_set};
+ghost use Rattle.std.specs.Prelude.{◌≡◌, ◌<◌, IfSome, replicate, slice_get, slice_set};
 ghost use Rattle.records.specs.Scores.{one_more, counted_in};
 
 use std::io::Print;
@@ -35,7 +35,8 @@ pub struct Score<const KINDS: usize> {
 impl<const KINDS: usize> Score<KINDS> {
     // Nothing counted.
     pub fn new() -> Score<KINDS>
-        ensures { result.unread ≡ 0 }
+        ensures kinds { result.kinds ≡ replicate KINDS (record { agree = 0; differ = 0 }) }
+        ensures unread { result.unread ≡ 0 }
     {
         Score {
             kinds: [Counts::default(); KINDS],

@@ -1,5 +1,7 @@
 // Words read, laid and compared.
-ghost use Rattle.std.specs.Prelude.{◌≡◌, ◌≤◌, ◌++◌, true, length, take, drop};
+ghost use Rattle.std.specs.Prelude.{◌≡◌, ℕ, ◌≤◌, ◌<◌, ◌*◌, ◌++◌, true, length, take, drop, slice_index};
+ghost use Rattle.numbers.specs.Numbers.{number};
+ghost use Rattle.records.specs.Words.{fill};
 
 use numbers::number_at;
 
@@ -9,6 +11,8 @@ pub const FILL: u64 = 0xa5a5a5a5a5a5a5a5;
 // The first words of some bytes, and FILL behind them.
 pub fn words_of<const N: usize>(bytes: &[u8], size: usize, count: usize) -> [u64; N]
     requires { (size ≤ 8) × (count ≤ N) }
+    ensures words { (i : ℕ) → i < count → slice_index result i ≡ number bytes.now (i * size) size }
+    ensures behind { (i : ℕ) → count ≤ i → i < N → slice_index result i ≡ fill }
 {
     let mut words = [FILL; N];
     for (i, word) in words[..count].iter_mut().enumerate() {

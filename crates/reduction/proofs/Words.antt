@@ -17,9 +17,6 @@ module _ (k most to : ℕ) (at : to ≡ min (words_for k) (length {A = ℕ} (rep
   abbrev words : List ℕ
   words = replicate most 0
 
-  pub lent_room : to ≤ length words
-  lent_room = lent_within k to words at
-
   pub lent_count : to ≡ length (take to words)
   lent_count = part_words k to words at
 

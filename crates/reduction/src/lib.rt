@@ -87,6 +87,7 @@ fn by_columns(m: usize, a: &mut [u64], t: &mut [u64], pivots: &mut [usize]) -> u
 {
     let k = blocks::rows_in(a);
     let mut p: usize = 0;
+    // by number: columns have numbers alone
     for c in 0..m {
         // every row has its pivot: no later column changes anything
         if p == k {
@@ -97,24 +98,13 @@ fn by_columns(m: usize, a: &mut [u64], t: &mut [u64], pivots: &mut [usize]) -> u
     p
 }
 
-// Puts the unit rows.
-fn put_units(t: &mut [u64])
-    requires { length (rows_in_lem t.old) ≤ width }
-    ensures { rows_in_lem t.new ≡ units (length (rows_in_lem t.old)) }
-{
-    let k = blocks::rows_in(t);
-    for i in 0..k {
-        blocks::put(t, i, Row::unit(i));
-    }
-}
-
 // Reduces the rows of a by their first m columns, with the transform in t; answers the rank. Numbers behind the pivots stay as they were.
 fn reduce(m: usize, a: &mut [u64], t: &mut [u64], pivots: &mut [usize]) -> usize
     requires { (length (rows_in_lem a.old) ≡ length (rows_in_lem t.old)) × (length (rows_in_lem a.old) ≤ length pivots.old) × (length (rows_in_lem a.old) ≤ width) }
     ensures { ReducedIn m (rows_in_lem a.old) result (rows_in_lem a.new) (rows_in_lem t.new) (take result pivots.new)
         × (drop result pivots.new ≡ drop result pivots.old) }
 {
-    put_units(t);
+    blocks::put_units(blocks::rows_in(t), t);
     by_columns(m, a, t, pivots)
 }
 

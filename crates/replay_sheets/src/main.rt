@@ -6,7 +6,7 @@
 
 ghost use Rattle.std.specs.Prelude.{◌≡◌, ◌+◌, ◌*◌, ◌≤◌, length};
 ghost use Rattle.std.proofs.Common.{rules};
-ghost use Rattle.replay_sheets.specs.Sizes.{bytes_have_room};
+ghost use Rattle.records.proofs.Sizes.{bytes_have_room};
 
 use numbers::number_at;
 use records::Record;

@@ -33,6 +33,7 @@ fn put_plus(a: Action, k: usize, w: &mut [u64])
     let n = symplectic::capped(a.n);
     let m = n + n;
     let count = m.min(blocks::rows_in(w));
+    // by number: rows are put in lent words
     for i in 0..count {
         let j = rotated(i, k, m);
         blocks::put(w, i, a.rows[j] ^ Row::unit(j));
@@ -61,6 +62,7 @@ fn dots(v: Row, w: &[u64], k: usize) -> Row
     // the bounds of k once more, so that none is asked in the loop
     let m = k.min(WIDTH).min(blocks::rows_in(w));
     let mut s = Row::zero();
+    // by number: column i is for row i
     for i in 0..m {
         s = s.added(Row::unit(i), v.dot(blocks::row(w, i)));
     }
@@ -74,6 +76,7 @@ fn put_core(k: usize, rows: &[u64], transform: &[u64], out: &mut [u64])
         ≡ over (times_transposed (take k (rows_in_lem rows.now)) (take k (rows_in_lem transform.now))) (rows_in_lem out.old) }
 {
     let m = k.min(blocks::rows_in(out));
+    // by number: rows are put in lent words
     for i in 0..m {
         blocks::put(out, i, dots(blocks::row(rows, i), transform, k));
     }

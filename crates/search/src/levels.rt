@@ -26,6 +26,7 @@ pub(crate) fn collected(basis: &[u64], k: usize, list: &mut [u64])
 {
     let n = k.min(blocks::rows_in(&list[..]));
     let mut at: usize = 0;
+    // by number: rows are put in lent words
     for i in 0..n {
         let d = k - i;
         blocks::put(list, i, draw_at(basis, at, d));
@@ -38,8 +39,9 @@ pub(crate) fn begin(basis: &mut [u64], gram: &mut [u64], core: &[u64], k: usize)
     requires { (k ≤ width) × (k ≡ length (core_in core.now)) × (levels k ≤ length (rows_in_lem basis.old)) × (levels k ≤ length (rows_in_lem gram.old)) }
     ensures { (take k (rows_in_lem basis.new) ≡ units k) × (gram_of (core_in core.now) (units k) ≡ take k (rows_in_lem gram.new)) }
 {
+    blocks::put_units(k, basis);
+    // by number: rows are put in lent words
     for i in 0..k {
-        blocks::put(basis, i, Row::unit(i));
         blocks::put(gram, i, blocks::row(core, i).low(k));
     }
 }

@@ -18,6 +18,7 @@ fn put_again(basis: &mut [u64], d: usize)
     requires { (d ≤ width) × (d + d ≤ length (rows_in_lem basis.old)) }
     ensures { (take d (rows_in_lem basis.new) ≡ take d (rows_in_lem basis.old)) × (take d (drop d (rows_in_lem basis.new)) ≡ take d (rows_in_lem basis.old)) }
 {
+    // by number: rows of one slice are read, and others put
     for i in 0..d {
         blocks::put(basis, d + i, blocks::row(basis, i));
     }

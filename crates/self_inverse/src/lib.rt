@@ -5,11 +5,12 @@
 // are peeled off, for which the last vector makes way for three.
 #![tactic(auto)]
 
-ghost use Rattle.std.specs.Prelude.{◌≡◌, List, ◌++◌, true, ℕ, suc, ◌+◌, ◌^◌, ◌≤◌, ◌<◌, eqb, length, take};
+ghost use Rattle.std.specs.Prelude.{◌≡◌, List, [], ◌∷◌, ◌++◌, true, ℕ, suc, ◌+◌, ◌^◌, ◌≤◌, ◌<◌, eqb, length, take};
 ghost use Rattle.binar.specs.Rows.{val, width};
 ghost use Rattle.blocks.specs.Matrices.{times, All};
 ghost use Rattle.blocks.specs.Words.{rows_in_lem};
 ghost use Rattle.std.specs.List.{list_all};
+ghost use Rattle.symplectic.specs.Sizes.{most_vectors};
 ghost use Rattle.actions.specs.Actions.{qubits, matrix};
 ghost use Rattle.questions.specs.Replies.{Replays, Shortest};
 ghost use Rattle.reduction.specs.Columns.{rank};
@@ -24,6 +25,7 @@ ghost use Rattle.self_inverse.specs.inner.Peels.{plus_outer, three, with_pair, S
 use actions::Action;
 use binar::Row;
 use questions::{ActionError, ListingError, Refusal};
+use std::marker::Model;
 use symplectic::{MOST_ROWS, MOST_VECTORS};
 
 // Why the call lists no vectors: what a call that lists without a search says, or that the action is not its own inverse.
@@ -60,6 +62,77 @@ impl Refusal for SelfInverseError {
     }
 }
 
+// A list of vectors: no more than one that is as short as any has.
+#[derive(Drop)]
+struct Vectors {
+    words: [u64; MOST_VECTORS],
+    count: usize,
+}
+
+// Contracts see its vectors.
+impl Model for Vectors {
+    ghost Value = { List ℕ };
+
+    ghost view = { λ l. take l.count (rows_in_lem l.words) };
+
+    ghost invariant = { λ l. (l.count ≤ most_vectors) × (most_vectors ≤ length (rows_in_lem l.words)) };
+}
+
+impl Vectors {
+    fn new() -> Vectors
+        ensures { result ≡ [] }
+    {
+        Vectors {
+            words: [0; MOST_VECTORS],
+            count: 0,
+        }
+    }
+
+    fn len(&self) -> usize
+        ensures { result ≡ length self.now }
+    {
+        self.count
+    }
+
+    fn as_slice(&self) -> &[u64]
+        ensures { rows_in_lem result.now ≡ self.now }
+    {
+        &self.words[..blocks::start(&self.words, self.count)]
+    }
+
+    fn push(&mut self, v: Row)
+        requires { length self.old < most_vectors }
+        ensures { self.new ≡ self.old ++ (val v ∷ []) }
+    {
+        blocks::put(&mut self.words, self.count, v);
+        self.count += 1;
+    }
+
+    // Puts p + f, p + s and p + f + s behind the vectors.
+    fn put_three(&mut self, p: Row, f: Row, s: Row)
+        requires { length self.old + 3 ≤ most_vectors }
+        ensures { self.new ≡ self.old ++ three (val f) (val s) (val p) }
+    {
+        let pf = p ^ f;
+        self.push(pf);
+        self.push(p ^ s);
+        self.push(pf ^ s);
+    }
+
+    // Puts three vectors in the place of the last one; where there is none, in that of the zero vector.
+    fn put_pair(&mut self, f: Row, s: Row)
+        requires { length (with_pair (val f) (val s) self.old) ≤ most_vectors }
+        ensures { self.new ≡ with_pair (val f) (val s) self.old }
+    {
+        if self.count == 0 {
+            return self.put_three(Row::zero(), f, s);
+        }
+        self.count -= 1;
+        let p = blocks::row(&self.words, self.count);
+        self.put_three(p, f, s);
+    }
+}
+
 // Whether each row times all of them is zero.
 fn squares_to_zero(rows: &[u64]) -> bool
     ensures { result ≡ list_all (λ v. eqb (times v (rows_in_lem rows.now)) 0) (rows_in_lem rows.now) }
@@ -84,6 +157,7 @@ fn add_outer(u: Row, v: Row, rows: &mut [u64])
     ensures { rows_in_lem rows.new ≡ plus_outer (val u) (val v) (rows_in_lem rows.old) }
 {
     let m = blocks::rows_in(rows);
+    // by number: rows are put in lent words
     for i in 0..m {
         let w = blocks::row(rows, i);
         blocks::put(rows, i, w.added(v, u.bit(i)));
@@ -97,114 +171,84 @@ fn diagonal(rows: &[u64]) -> Row
 {
     let m = blocks::rows_in(rows);
     let mut d = Row::zero();
+    // by number: column i is for row i
     for i in 0..m {
         d = d.added(Row::unit(i), blocks::row(rows, i).bit(i));
     }
     d
 }
 
-// Peels rows off a symmetric matrix into a list while its diagonal has a one. Answers how many. Each changes the diagonal by itself.
-fn peel(rows: &mut [u64], list: &mut [u64]) -> usize
-    requires { Peelable (rows_in_lem rows.old) (rows_in_lem list.old) }
+// Peels rows off a symmetric matrix into a list while its diagonal has a one. Each changes the diagonal by itself.
+fn peel(rows: &mut [u64]) -> Vectors
+    requires { Peelable (rows_in_lem rows.old) }
     ensures square { length (rows_in_lem rows.new) ≡ length (rows_in_lem rows.old) }
     ensures left { SymmetricSquare (rows_in_lem rows.new) × Level (rows_in_lem rows.new) }
-    ensures split { Split (rows_in_lem rows.old) (take result (rows_in_lem list.new)) (rows_in_lem rows.new) }
-    ensures short { result + rank (length (rows_in_lem rows.old)) (rows_in_lem rows.new)
+    ensures split { Split (rows_in_lem rows.old) result (rows_in_lem rows.new) }
+    ensures short { length result + rank (length (rows_in_lem rows.old)) (rows_in_lem rows.new)
         ≤ rank (length (rows_in_lem rows.old)) (rows_in_lem rows.old) }
 {
     let mut d = diagonal(rows);
-    let mut count: usize = 0;
+    let mut list = Vectors::new();
     while !d.is_zero() {
         let v = blocks::row(rows, d.lowest());
-        blocks::put(list, count, v);
+        list.push(v);
         add_outer(v, v, rows);
         d ^= v;
-        count += 1;
     }
-    count
-}
-
-// Puts p + f, p + s and p + f + s into a list, from place i on. Answers where they end.
-fn put_three(list: &mut [u64], i: usize, p: Row, f: Row, s: Row) -> usize
-    requires { (i + 3 ≤ length (rows_in_lem list.old)) × (i ≤ width) }
-    ensures { (result ≡ i + 3) × (length (rows_in_lem list.new) ≡ length (rows_in_lem list.old))
-        × (take (i + 3) (rows_in_lem list.new) ≡ take i (rows_in_lem list.old) ++ three (val f) (val s) (val p)) }
-{
-    let pf = p ^ f;
-    blocks::put(list, i, pf);
-    blocks::put(list, i + 1, p ^ s);
-    blocks::put(list, i + 2, pf ^ s);
-    i + 3
-}
-
-// Puts three vectors in the place of the last of the first k of a list; where k is 0, in that of the zero vector. Answers how many there
-// are then.
-fn put_pair(list: &mut [u64], k: usize, f: Row, s: Row) -> usize
-    requires { (k ≤ length (rows_in_lem list.old)) × (k ≤ suc width) × (length (with_pair (val f) (val s) (take k (rows_in_lem list.old))) ≤ length (rows_in_lem list.old)) }
-    ensures { (result ≡ length (with_pair (val f) (val s) (take k (rows_in_lem list.old))))
-        × (length (rows_in_lem list.new) ≡ length (rows_in_lem list.old))
-        × (take result (rows_in_lem list.new) ≡ with_pair (val f) (val s) (take k (rows_in_lem list.old))) }
-{
-    if k == 0 {
-        return put_three(list, 0, Row::zero(), f, s);
-    }
-    let i = k - 1;
-    put_three(list, i, blocks::row(list, i), f, s)
+    list
 }
 
 // Where row i of a symmetric matrix with zeros on its diagonal is not zero, peels it off with the row of its first one, and puts the pair
-// into a list of which the first k vectors stand. Answers how many there are then.
-fn peel_pair(rows: &mut [u64], list: &mut [u64], k: usize, i: usize) -> usize
-    requires { Peelable (rows_in_lem rows.old) (rows_in_lem list.old) × Level (rows_in_lem rows.old)
-        × (k + rank (length (rows_in_lem rows.old)) (rows_in_lem rows.old) ≤ suc (length (rows_in_lem rows.old))) }
-    ensures paired { Paired i (rows_in_lem rows.old) (rows_in_lem rows.new) (take k (rows_in_lem list.old)) (take result (rows_in_lem list.new)) }
-    ensures room { (result ≤ length (rows_in_lem list.new)) × (length (rows_in_lem list.new) ≡ length (rows_in_lem list.old)) }
+// into a list.
+fn peel_pair(rows: &mut [u64], list: &mut Vectors, i: usize)
+    requires { Peelable (rows_in_lem rows.old) × Level (rows_in_lem rows.old)
+        × (length list.old + rank (length (rows_in_lem rows.old)) (rows_in_lem rows.old) ≤ suc (length (rows_in_lem rows.old))) }
+    ensures { Paired i (rows_in_lem rows.old) (rows_in_lem rows.new) list.old list.new }
 {
     let f = blocks::row(rows, i);
     if f.is_zero() {
-        return k;
+        return;
     }
     let s = blocks::row(rows, f.lowest());
     add_outer(f, s, rows);
     add_outer(s, f, rows);
-    put_pair(list, k, f, s)
+    list.put_pair(f, s);
 }
 
-// Peels pairs of rows off a symmetric matrix with zeros on its diagonal, until it is zero, and puts them into a list of which the first k
-// vectors stand. Answers how many there are then.
-fn pair_off(rows: &mut [u64], list: &mut [u64], k: usize) -> usize
-    requires { Peelable (rows_in_lem rows.old) (rows_in_lem list.old) × Level (rows_in_lem rows.old)
-        × (k + rank (length (rows_in_lem rows.old)) (rows_in_lem rows.old) ≤ length (rows_in_lem rows.old)) }
-    ensures sums { (M : List ℕ) → Split M (take k (rows_in_lem list.old)) (rows_in_lem rows.old) → Sums M (take result (rows_in_lem list.new)) }
-    ensures short { Grown k (rank (length (rows_in_lem rows.old)) (rows_in_lem rows.old)) result 0 × (result ≤ length (rows_in_lem list.new)) }
+// Peels pairs of rows off a symmetric matrix with zeros on its diagonal, until it is zero, and puts them into a list.
+fn pair_off(rows: &mut [u64], list: &mut Vectors)
+    requires { Peelable (rows_in_lem rows.old) × Level (rows_in_lem rows.old)
+        × (length list.old + rank (length (rows_in_lem rows.old)) (rows_in_lem rows.old) ≤ length (rows_in_lem rows.old)) }
+    ensures sums { (M : List ℕ) → Split M list.old (rows_in_lem rows.old) → Sums M list.new }
+    ensures short { Grown (length list.old) (rank (length (rows_in_lem rows.old)) (rows_in_lem rows.old)) (length list.new) 0 }
 {
     let m = blocks::rows_in(rows);
-    let mut count = k;
+    // by number: rows are put in lent words
     for i in 0..m {
-        count = peel_pair(rows, list, count, i);
+        peel_pair(rows, list, i);
     }
-    count
 }
 
-// Takes a symmetric matrix apart: puts vectors into a list that add up to it, each as a column times itself as a row. Answers how many.
-fn decompose(rows: &mut [u64], list: &mut [u64]) -> usize
-    requires { Peelable (rows_in_lem rows.old) (rows_in_lem list.old) }
-    ensures { Decomposed (rows_in_lem rows.old) (take result (rows_in_lem list.new)) × (result ≤ length (rows_in_lem list.new)) }
+// Takes a symmetric matrix apart: vectors that add up to it, each as a column times itself as a row.
+fn decompose(rows: &mut [u64]) -> Vectors
+    requires { Peelable (rows_in_lem rows.old) }
+    ensures { Decomposed (rows_in_lem rows.old) result }
 {
-    let count = peel(rows, list);
-    pair_off(rows, list, count)
+    let mut list = peel(rows);
+    pair_off(rows, &mut list);
+    list
 }
 
-// Puts the vectors of commuting turns that play a self-inverse action into a list. Answers how many.
-fn commuting_turns(a: Action, list: &mut [u64]) -> usize
-    requires { SymmetricSquare (residue_of (qubits a) (matrix a)) × (length (residue_of (qubits a) (matrix a)) < length (rows_in_lem list.old)) }
-    ensures { Decomposed (residue_of (qubits a) (matrix a)) (take result (rows_in_lem list.new)) × (result ≤ length (rows_in_lem list.new)) }
+// The vectors of commuting turns that play a self-inverse action.
+fn commuting_turns(a: Action) -> Vectors
+    requires { SymmetricSquare (residue_of (qubits a) (matrix a)) }
+    ensures { Decomposed (residue_of (qubits a) (matrix a)) result }
 {
     let mut rows = [0u64; MOST_ROWS];
     let n = symplectic::capped(a.n);
     let to = blocks::start(&rows, n + n);
     residue::residue(a, &mut rows[..to]);
-    decompose(&mut rows[..to], list)
+    decompose(&mut rows[..to])
 }
 
 // A list of turns whose vectors all pair to 0, as short as any, for an action that is its own inverse.
@@ -230,9 +274,7 @@ pub fn clifford_to_transvections_self_inverse(
     if !is_self_inverse(a) {
         return Err(SelfInverseError::NotSelfInverse);
     }
-    let mut list = [0u64; MOST_VECTORS];
-    let count = commuting_turns(a, &mut list);
-    let to = blocks::start(&list, count);
-    matrices::lay(n, &list[..to], out);
-    Ok(count as u64)
+    let list = commuting_turns(a);
+    matrices::lay(n, list.as_slice(), out);
+    Ok(list.len() as u64)
 }

@@ -1,16 +1,20 @@
 -- The lines of a sheet by their index, and the gates that they stand for.
 -- Assumes nothing.
 use mathlib.Core.Path.{◌≡◌, refl, sym, ap, ◌∙◌}
+use mathlib.Core.Bool.{Bool, ◌&&◌}
 use mathlib.Core.List.{List, [], ◌∷◌, map}
-use Prim.Native.Nat.{ℕ, zero, suc, ◌+◌, ◌-◌, ◌<◌}
+use Prim.Native.Nat.{ℕ, zero, suc, ◌+◌, ◌*◌, ◌<◌}
 use native.Mathlib.Nat.{add-zero, add-suc, suc-add, zero-add, le_of_suc-le-suc, not-suc-le-zero}
+use native.Mathlib.Numerals.{add-one}
 use native.Mathlib.Omega.{arith}
+use lib.Dec.{leb, ltb}
 use lib.ListN.{length, take, drop, get_or, length-map, get_or-map}
-use Rattle.std.specs.List.{list_all}
-use Rattle.numbers.proofs.Numbers.{part_cut}
+use Rattle.std.specs.List.{list_all, range_with_len}
+use Rattle.std.proofs.lemmas.List.Folds.{list_all-map}
 use Rattle.numbers.specs.Numbers.{part}
+use Rattle.numbers.proofs.Numbers.{part_is}
 use Rattle.sheets.specs.declared.SheetLine.{SheetLine}
-use Rattle.sheets.specs.Sheets.{Gate, gate_count_lem, line, lines_from, lines, gate_of, gates_of, turn_fits_lem, gate_fits_lem}
+use Rattle.sheets.specs.Sheets.{Gate, most_gates, line_size, gate_count_lem, line, lines_from, lines, gate_of, gates_of, line_fits_lem, well_formed_lem, turn_fits_lem, gate_fits_lem}
 
 from_length : (sheet : List ℕ) (k g : ℕ) → length (lines_from sheet k g) ≡ k
 unfolding lines_from
@@ -59,6 +63,27 @@ module _ (sheet : List ℕ) where
     gate_turns = refl
 
     -- what is tested is that each turn fits
-    pub gate_fits_is : list_all (turn_fits_lem l.qubits) (take (l.offset + l.count - l.offset) (drop l.offset sheet)) ≡ gate_fits_lem (gate_of sheet l)
+    pub gate_fits_is : list_all (turn_fits_lem l.qubits) (take l.count (drop l.offset sheet)) ≡ gate_fits_lem (gate_of sheet l)
     unfolding gate_fits_lem gate_of
-    gate_fits_is = ap (list_all (turn_fits_lem l.qubits)) (part_cut sheet l.offset l.count)
+    gate_fits_is = ap (list_all (turn_fits_lem l.qubits)) (sym (part_is sheet l.offset l.count))
+
+-- ---- tests of all, by their index
+
+module _ (sheet : List ℕ) where
+  by_index : (f : SheetLine → Bool) (k g : ℕ) → list_all (λ i. f (line sheet i)) (range_with_len g k) ≡ list_all f (lines_from sheet k g)
+  unfolding lines_from
+  by_index f zero g = refl
+  by_index f (suc k) g =
+      ap (λ b. f (line sheet g) && b) (ap (λ h. list_all (λ i. f (line sheet i)) (range_with_len h k)) (add-one g) ∙ by_index f k (suc g))
+
+  lines_by_index : (f : SheetLine → Bool) → list_all (λ g. f (line sheet g)) (range_with_len 0 (gate_count_lem sheet)) ≡ list_all f (lines sheet)
+  unfolding lines
+  lines_by_index f = by_index f (gate_count_lem sheet) 0
+
+  pub well_formed_is : well_formed_lem sheet ≡ (ltb 0 (gate_count_lem sheet) && leb (gate_count_lem sheet) most_gates) && (leb (1 + line_size * gate_count_lem sheet) (length sheet) && list_all (λ g. line_fits_lem sheet (line sheet g)) (range_with_len 0 (gate_count_lem sheet)))
+  unfolding well_formed_lem
+  well_formed_is = ap (λ b. (ltb 0 (gate_count_lem sheet) && leb (gate_count_lem sheet) most_gates) && (leb (1 + line_size * gate_count_lem sheet) (length sheet) && b)) (sym (lines_by_index (line_fits_lem sheet)))
+
+  pub gates_by_index : list_all (λ g. gate_fits_lem (gate_of sheet (line sheet g))) (range_with_len 0 (gate_count_lem sheet)) ≡ list_all gate_fits_lem (gates_of sheet)
+  unfolding gates_of
+  gates_by_index = lines_by_index (λ l. gate_fits_lem (gate_of sheet l)) ∙ sym (list_all-map gate_fits_lem (gate_of sheet) (lines sheet))

@@ -2,9 +2,9 @@
 // Not in the source.
 #![tactic(auto)]
 
-ghost use Rattle.std.specs.Prelude.{◌≡◌, true, ◌+◌, ◌≤◌, length};
-ghost use Rattle.std.specs.List.{list_all};
-ghost use Rattle.sheets.specs.Sheets.{gate_count_lem, line, lines, gate_of, gates_of, line_fits_lem, well_formed_lem, turn_fits_lem, gate_fits_lem, sheet_questions_lem, in_force, StaysSound};
+ghost use Rattle.std.specs.Prelude.{◌≡◌, true, take, drop};
+ghost use Rattle.std.specs.List.{list_all, range_with_len};
+ghost use Rattle.sheets.specs.Sheets.{gate_count_lem, line, gate_of, line_fits_lem, well_formed_lem, turn_fits_lem, gate_fits_lem, sheet_questions_lem, in_force, StaysSound};
 ghost use Rattle.sheets.specs.Six.{six_gates_lem};
 ghost use Rattle.sheets.specs.Answers.{sheet_number, number_of};
 
@@ -98,19 +98,13 @@ fn line_fits(sheet: &[u8], l: SheetLine) -> bool
 
 // Whether every line fits.
 fn lines_fit(sheet: &[u8]) -> bool
-    ensures { result ≡ list_all (line_fits_lem sheet.now) (lines sheet.now) }
+    ensures { result ≡ list_all (λ g. line_fits_lem sheet.now (line sheet.now g)) (range_with_len 0 (gate_count_lem sheet.now)) }
 {
-    let count = gate_count(sheet);
-    for g in 0..count {
-        if !line_fits(sheet, line_at(sheet, g)) {
-            return false;
-        }
-    }
-    true
+    (0..gate_count(sheet)).all(|g| line_fits(sheet, line_at(sheet, g)))
 }
 
 // Question 15.
-#[tactic(auto, unfolding(crate::specs::Sheets::well_formed_lem))]
+#[tactic(auto, using(crate::proofs::Lines::well_formed_is), unfolding(crate::specs::Sheets::well_formed_lem))]
 fn well_formed(sheet: &[u8]) -> bool
     ensures { result ≡ well_formed_lem sheet.now }
 {
@@ -129,39 +123,34 @@ fn turn_fits(qubits: u8, code: u8) -> bool
     (1..=15).contains(&code) && (qubits == 2 || !(turn.bit(1) || turn.bit(3)))
 }
 
-// Whether every turn fits a gate.
-fn turns_fit(qubits: u8, turns: &[u8]) -> bool
-    ensures { result ≡ list_all (turn_fits_lem qubits) turns.now }
+// Whether some bytes of a sheet, from a place on, are turns that fit a gate.
+fn turns_fit(qubits: u8, sheet: &[u8], from: usize, count: usize) -> bool
+    ensures { result ≡ list_all (turn_fits_lem qubits) (take count (drop from sheet.now)) }
 {
-    turns.iter().all(|code| turn_fits(qubits, *code))
+    sheet
+        .iter()
+        .skip(from)
+        .take(count)
+        .all(|code| turn_fits(qubits, *code))
 }
 
 // Whether every turn of a line fits.
+#[tactic(auto, using(crate::proofs::Lines::gate_fits_is))]
 fn gate_fits(sheet: &[u8], l: SheetLine) -> bool
-    requires { l.offset + l.count ≤ length sheet.now }
     ensures { result ≡ gate_fits_lem (gate_of sheet.now l) }
 {
-    let from = l.offset as usize;
-    let to = from + l.count as usize;
-    turns_fit(l.qubits, &sheet[from..to])
+    turns_fit(l.qubits, sheet, l.offset as usize, l.count as usize)
 }
 
-// Question 16 of a sheet that is well formed.
+// Question 16.
 fn gates_fit(sheet: &[u8]) -> bool
-    requires { well_formed_lem sheet.now ≡ true }
-    ensures { result ≡ list_all gate_fits_lem (gates_of sheet.now) }
+    ensures { result ≡ list_all (λ g. gate_fits_lem (gate_of sheet.now (line sheet.now g))) (range_with_len 0 (gate_count_lem sheet.now)) }
 {
-    let count = gate_count(sheet);
-    for g in 0..count {
-        if !gate_fits(sheet, line_at(sheet, g)) {
-            return false;
-        }
-    }
-    true
+    (0..gate_count(sheet)).all(|g| gate_fits(sheet, line_at(sheet, g)))
 }
 
 // Questions 15 and 16.
-#[tactic(auto, unfolding(crate::specs::Sheets::sheet_questions_lem))]
+#[tactic(auto, using(crate::proofs::Lines::gates_by_index), unfolding(crate::specs::Sheets::sheet_questions_lem))]
 pub fn sheet_questions(sheet: &[u8]) -> Result<(), SheetError>
     ensures { number_of result ≡ sheet_questions_lem sheet.now }
 {

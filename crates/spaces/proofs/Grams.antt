@@ -51,28 +51,23 @@ module _ (E B G : List ℕ) (is : gram_of E B ≡ G) where
 
 -- ---- read from the first d of lent rows
 
-module _ (d : ℕ) (w : List ℕ) where
-  -- the form that they give, of members named by their places
-  pub form_bit : (i j : ℕ) → i < d → j < d → (x : ℕ) → x ≡ get_or w i 0 → (t : Bool) → t ≡ bit j x → t ≡ form_in w (get_or (below d) i 0) (get_or (below d) j 0)
-  form_bit i j h k x x-is t t-is = t-is ∙ ap (bit j) x-is ∙ sym (ap₂ (form_in w) (below_at d i h) (below_at d j k))
+module _ (d : ℕ) (w : List ℕ) (long : d ≤ length w) (E B : List ℕ) (is : gram_of E B ≡ take d w) where
+  lent_length : length B ≡ d
+  lent_length = sym (gram_length E B (take d w) is) ∙ length-take-le d w long
 
-  module _ (long : d ≤ length w) (E B : List ℕ) (is : gram_of E B ≡ take d w) where
-    lent_length : length B ≡ d
-    lent_length = sym (gram_length E B (take d w) is) ∙ length-take-le d w long
+  -- it is alternating where the form is so on the members
+  gram_alternating : is_alternating_lem (form_in w) (below d) ≡ is_alternating_lem (form E) B
+  gram_alternating =
+      alternating_alike (form_in w) (form E) (below d) B (below_length d ∙ sym lent_length) (λ i j h k. same i j (subst (λ n. i < n) (below_length d) h) (subst (λ n. j < n) (below_length d) k))
+    where
+      same : (i j : ℕ) → i < d → j < d → form_in w (get_or (below d) i 0) (get_or (below d) j 0) ≡ form E (get_or B i 0) (get_or B j 0)
+      same i j h k =
+          ap₂ (form_in w) (below_at d i h) (below_at d j k) ∙ ap (bit j) (sym (get_or-take d w i 0 h))
+          ∙ gram_bit E B (take d w) is i j (subst (λ n. i < n) (sym lent_length) h) (subst (λ n. j < n) (sym lent_length) k)
 
-    -- it is alternating where the form is so on the members
-    gram_alternating : is_alternating_lem (form_in w) (below d) ≡ is_alternating_lem (form E) B
-    gram_alternating =
-        alternating_alike (form_in w) (form E) (below d) B (below_length d ∙ sym lent_length) (λ i j h k. same i j (subst (λ n. i < n) (below_length d) h) (subst (λ n. j < n) (below_length d) k))
-      where
-        same : (i j : ℕ) → i < d → j < d → form_in w (get_or (below d) i 0) (get_or (below d) j 0) ≡ form E (get_or B i 0) (get_or B j 0)
-        same i j h k =
-            ap₂ (form_in w) (below_at d i h) (below_at d j k) ∙ ap (bit j) (sym (get_or-take d w i 0 h))
-            ∙ gram_bit E B (take d w) is i j (subst (λ n. i < n) (sym lent_length) h) (subst (λ n. j < n) (sym lent_length) k)
-
-    -- so the test of a space that has members tells
-    pub tested_form : 0 < d → (t : Bool) → t ≡ (is_alternating_lem (form_in w) (below d) && ltb 0 d) → is_alternating_lem (form E) B ≡ t
-    tested_form h t e = sym (e ∙ ap₂ ◌&&◌ gram_alternating (lt-ltb 0 d h) ∙ and-true (is_alternating_lem (form E) B))
+  -- so the test of a space that has members tells
+  pub tested_form : 0 < d → (t : Bool) → t ≡ (is_alternating_lem (form_in w) (below d) && ltb 0 d) → is_alternating_lem (form E) B ≡ t
+  tested_form h t e = sym (e ∙ ap₂ ◌&&◌ gram_alternating (lt-ltb 0 d h) ∙ and-true (is_alternating_lem (form E) B))
 
 -- ---- of the unit rows: the core, as far as these have columns
 

@@ -45,6 +45,7 @@ pub fn sums(w: &mut [u64], d: usize)
         return;
     }
     let mut s = Row::zero();
+    // by number: rows of one slice are read, and others put
     for i in 0..d {
         s ^= blocks::row(w, i);
         blocks::put(w, d + i, s);
@@ -84,6 +85,7 @@ fn pass<F: Fn(Row) -> Row>(w: &mut [u64], d: usize, h: Row, j: usize, made: F)
     let m = blocks::row(w, j);
     let mut x = blocks::row(w, 0);
     let mut r = h;
+    // by number: rows of one slice are read, and others put
     for n in 1..d {
         let i = n - 1;
         r = r.shift_down(1);

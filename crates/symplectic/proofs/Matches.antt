@@ -3,9 +3,9 @@
 use mathlib.Core.Path.{◌≡◌, refl, sym, ap, ap₂, ◌∙◌}
 use mathlib.Core.Bool.{Bool, true, false, ◌&&◌, true≢false, and-eq-true_iff}
 use mathlib.Core.List.{List, [], ◌∷◌}
-use Prim.Native.Nat.{ℕ, ◌+◌, ◌^◌, ◌≤◌, ◌<◌}
+use Prim.Native.Nat.{ℕ, ◌+◌, ◌^◌, ◌<◌}
 use lib.Dec.{ltb, eqb}
-use lib.ListN.{length, get_or, drop, drop_of_length-le}
+use lib.ListN.{length}
 use borrow.Author.Tests.{ltb-true, eqb-true, lt-ltb, eq-eqb}
 use Rattle.blocks.specs.Matrices.{All}
 use Rattle.blocks.proofs.All.{All-map}
@@ -13,8 +13,6 @@ use Rattle.symplectic.specs.Turns.{product}
 use Rattle.std.specs.List.{list_all}
 use Rattle.symplectic.specs.Matches.{fit_all, same_rows, matches}
 use Rattle.symplectic.proofs.Lists.{all_true, true_all}
-use Rattle.symplectic.proofs.FirstPicks.{drop_open}
-use Rattle.symplectic.proofs.Tests.{onward, stopped}
 
 -- ---- vectors within their width
 
@@ -49,27 +47,6 @@ rows_differ xs ys h = go (same_rows xs ys) refl
     go : (b : Bool) → same_rows xs ys ≡ b → false ≡ b
     go true e = absurd (h (ap length (rows_equal xs ys e)))
     go false e = refl
-
--- from row i on they are the same where they are so from the start
-module _ (xs ys : List ℕ) (i : ℕ) (so : same_rows (drop i xs) (drop i ys) ≡ same_rows xs ys) where
-  pub same_end : length xs ≤ i → length ys ≤ i → true ≡ same_rows xs ys
-  same_end h k = sym (ap₂ same_rows (drop_of_length-le xs h) (drop_of_length-le ys k)) ∙ so
-
-  module _ (h : i < length xs) (k : i < length ys) where
-    abbrev test : Bool
-    test = eqb (get_or xs i 0) (get_or ys i 0)
-
-    abbrev behind : Bool
-    behind = same_rows (drop (i + 1) xs) (drop (i + 1) ys)
-
-    open_same : same_rows (drop i xs) (drop i ys) ≡ test && behind
-    open_same = ap₂ same_rows (drop_open xs i 0 h) (drop_open ys i 0 k)
-
-    pub same_onward : eqb (get_or xs i 0) (get_or ys i 0) ≡ true → same_rows (drop (i + 1) xs) (drop (i + 1) ys) ≡ same_rows xs ys
-    same_onward e = onward test behind (same_rows (drop i xs) (drop i ys)) (same_rows xs ys) so open_same e
-
-    pub same_stopped : eqb (get_or xs i 0) (get_or ys i 0) ≡ false → false ≡ same_rows xs ys
-    same_stopped e = stopped test behind (same_rows (drop i xs) (drop i ys)) (same_rows xs ys) so open_same e
 
 -- ---- a list that matches
 

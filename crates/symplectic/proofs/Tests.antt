@@ -32,13 +32,6 @@ and_no a b e = ap (λ t. t && b) (sym e)
 pub and_yes : (a b t : Bool) → a ≡ true → t ≡ b → t ≡ a && b
 and_yes a b t e d = d ∙ ap (λ s. s && b) (sym e)
 
-module _ (t rest now whole : Bool) (same : now ≡ whole) (parts : now ≡ t && rest) where
-  pub onward : t ≡ true → rest ≡ whole
-  onward e = and_yes t rest rest e refl ∙ sym parts ∙ same
-
-  pub stopped : t ≡ false → false ≡ whole
-  stopped e = and_no t rest e ∙ sym parts ∙ same
-
 -- ---- any test
 
 module _ {A : Type 0} (f : A → Bool) (d : A) where

@@ -53,6 +53,7 @@ pub fn follow(n: u64, w: &mut [u64], v: Row)
 {
     let s = swap_halves(capped(n), v);
     let count = blocks::rows_in(&w[..]);
+    // by number: rows are put in lent words
     for i in 0..count {
         let u = blocks::row(&w[..], i);
         blocks::put(w, i, turned(u, v, s));
@@ -64,10 +65,7 @@ pub fn put_identity(n: u64, w: &mut [u64])
     ensures { rows_in_lem w.new ≡ over (units (capped_of n + capped_of n)) (rows_in_lem w.old) }
 {
     let k = capped(n);
-    let count = (k + k).min(blocks::rows_in(&w[..]));
-    for i in 0..count {
-        blocks::put(w, i, Row::unit(i));
-    }
+    blocks::put_units(k + k, w)
 }
 
 // Whether the dot of s and each of the first i rows that lent words hold is the bit of e in its place.

@@ -112,6 +112,7 @@ fn record_turns(n: u64, w: &mut [u64], kept: &mut [u64]) -> usize
 {
     let m = n as usize;
     let limit = m * 4 + 2;
+    // by number: the place of a turn, and how many there are
     for i in 0..limit {
         let standing = Standing {
             n: m,
@@ -131,10 +132,8 @@ fn store_reversed(n: u64, kept: &[u64], count: usize, out: &mut [u64])
     requires { (count ≤ length (rows_in_lem kept.now)) × (count ≤ length out.old) }
     ensures { out.new ≡ laid n (reverse (take count (rows_in_lem kept.now))) out.old }
 {
-    for k in 0..count {
-        let u = blocks::row(kept, count - 1 - k);
-        out[k] = blocks::word(u);
-    }
+    out[..count].copy_from_slice(&kept[..count]);
+    out[..count].reverse();
 }
 
 // The rows of an action put over words for work.
@@ -143,9 +142,8 @@ fn load(a: Action, w: &mut [u64])
     ensures { rows_in_lem w.new ≡ over (matrix a) (rows_in_lem w.old) }
 {
     let n = symplectic::capped(a.n);
-    let count = n + n;
-    for i in 0..count {
-        blocks::put(w, i, a.rows[i]);
+    for (i, row) in a.rows[..n + n].iter().enumerate() {
+        blocks::put(w, i, *row);
     }
 }
 

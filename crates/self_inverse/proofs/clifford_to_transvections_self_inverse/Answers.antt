@@ -5,22 +5,16 @@ use mathlib.Core.Bool.{true}
 use mathlib.Core.List.{List}
 use Prim.Native.Nat.{ℕ, ◌+◌, ◌^◌, ◌≤◌, ◌<◌}
 use native.Mathlib.Omega.{arith}
-use native.Mathlib.Nat.{le_refl}
-use lib.ListN.{length, take, replicate}
-use lib.Seq.{length-take-le}
 use Rattle.std.proofs.lemmas.Result.{err_from_is_err_and}
 use Rattle.questions.specs.Answers.{number_of}
 use Rattle.blocks.specs.Matrices.{All}
-use Rattle.blocks.specs.Words.{rows_of_words, rows_in_lem, laid}
-use Rattle.blocks.proofs.Lent.{lent_front}
-use Rattle.symplectic.specs.Sizes.{max_qubits, most_vectors}
-use Rattle.symplectic.proofs.Work.{room_in_lem}
+use Rattle.blocks.specs.Words.{rows_of_words, laid}
+use Rattle.symplectic.specs.Sizes.{max_qubits}
 use Rattle.actions.specs.Actions.{qubits, matrix}
 use Rattle.actions.proofs.Arrays.{loaded}
 use Rattle.questions.specs.Replies.{action_questions_lem}
 use Rattle.questions.proofs.Questions.{passed_size, passed_count, passed_rows, passed_symplectic}
 use Rattle.residue.specs.Residue.{residue}
-use Rattle.residue.proofs.Core.{residue_length}
 use Rattle.self_inverse.specs.SelfInverse.{is_self_inverse}
 use Rattle.self_inverse.specs.inner.Peels.{SymmetricSquare, Decomposed}
 use Rattle.self_inverse.proofs.Squares.{self_inverse_is}
@@ -108,33 +102,27 @@ returns-then-not-is_self_inverse c =
       seventeen = told.1.1.1.1.1.1;
     }
 
--- its residue is symmetric, and smaller than the list
-pub commuting_turns-count-requires : goal.commuting_turns-count-requires
-commuting_turns-count-requires c =
+-- its residue is symmetric
+pub commuting_turns-list-requires : goal.commuting_turns-list-requires
+commuting_turns-list-requires c =
     let n = c.args.n in
-    let F = lent (goal.at.commuting_turns-count-requires c).Start in
-    let e = same (goal.at.commuting_turns-count-requires c).After-from_words-a in
-    let p = passed (goal.at.commuting_turns-count-requires c).In_ok-action_questions in
-    let size = passed_count n F p in
-    let long = residue_length n F size in
-    subst₂ (λ (m : ℕ) (G : List ℕ). SymmetricSquare (residue m G) × (length (residue m G) < length (rows_in_lem (replicate most_vectors 0)))) (sym e.0) (sym e.1)
-    (residue_rest n F size (passed_rows n F p) (passed_symplectic n F p) (self_inverse_is n F (inverse (goal.at.commuting_turns-count-requires c).Else-not-is_self_inverse)), omega (arith, long, few (goal.at.commuting_turns-count-requires c).In_ok-action_questions, room_in_lem most_vectors most_vectors (le_refl most_vectors)))
+    let F = lent (goal.at.commuting_turns-list-requires c).Start in
+    let e = same (goal.at.commuting_turns-list-requires c).After-from_words-a in
+    let p = passed (goal.at.commuting_turns-list-requires c).In_ok-action_questions in
+    subst₂ (λ (m : ℕ) (G : List ℕ). SymmetricSquare (residue m G)) (sym e.0) (sym e.1)
+    (residue_rest n F (passed_count n F p) (passed_rows n F p) (passed_symplectic n F p) (self_inverse_is n F (inverse (goal.at.commuting_turns-list-requires c).Else-not-is_self_inverse)))
 
 pub returns : goal.returns
 returns c =
-    let o = c.commuting_turns-count in
-    let to = c.start-to in
-    let lay = c.lay in
+    let o = c.commuting_turns-list in
     let s = c.args in
     let F = lent (goal.at.returns c).Start in
     let p = passed (goal.at.returns c).In_ok-action_questions in
     let e = same (goal.at.returns c).After-from_words-a in
-    let vs = take o.result (rows_in_lem o.new.list) in
-    let d = subst₂ (λ (m : ℕ) (G : List ℕ). Decomposed (residue m G) vs) e.0 e.1 o.ensures.0 in
-    let list = commuting_list s.n F (passed_count s.n F p) (passed_rows s.n F p) (passed_symplectic s.n F p) (self_inverse_is s.n F (inverse (goal.at.returns c).Else-not-is_self_inverse)) vs d in
-    let told = met_answer s.n s.rows.now s.out.now p (omega arith) (inverse (goal.at.returns c).Else-not-is_self_inverse) vs list o.result _
-    (sym (length-take-le o.result (rows_in_lem o.new.list) o.ensures.1))
-    (lay.ensures ∙ ap (λ (l : List ℕ). laid s.n l s.out.now) (lent_front o.result to.result o.new.list to.ensures)) in record {
+    let d = subst₂ (λ (m : ℕ) (G : List ℕ). Decomposed (residue m G) o.result) e.0 e.1 o.ensures in
+    let list = commuting_list s.n F (passed_count s.n F p) (passed_rows s.n F p) (passed_symplectic s.n F p) (self_inverse_is s.n F (inverse (goal.at.returns c).Else-not-is_self_inverse)) o.result d in
+    let told = met_answer s.n s.rows.now s.out.now p (omega arith) (inverse (goal.at.returns c).Else-not-is_self_inverse) o.result list c.len.result _ c.len.ensures
+    (c.lay.ensures ∙ ap (λ (l : List ℕ). laid s.n l s.out.now) c.as_slice.ensures) in record {
       answered = told.0;
       left = told.1.0;
       replays = told.1.1.0;

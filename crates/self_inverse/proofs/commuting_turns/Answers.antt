@@ -55,13 +55,11 @@ pub decompose-requires : goal.decompose-requires
 decompose-requires c =
     let e = is (goal.at.decompose-requires c).After-residue in
     record {
-      square = subst SymmetricSquare (sym e) c.requires.0;
+      square = subst SymmetricSquare (sym e) c.requires;
       narrow = omega (arith, ap length e, size (goal.at.decompose-requires c).Start, qubits_le c.args.a);
-      room = omega (arith, ap length e, c.requires.1);
     }
 
 pub returns : goal.returns
 returns c =
     let o = c.decompose in
-    let e = is (goal.at.returns c).After-residue in
-    (subst (λ (M : List ℕ). Decomposed M (take o.result (rows_in_lem o.new.list))) e o.ensures.0, o.ensures.1)
+    subst (λ (M : List ℕ). Decomposed M o.result) (is (goal.at.returns c).After-residue) o.ensures

@@ -1,12 +1,11 @@
 -- `peel_pair` leaves all as it was where row i is zero; else it takes a pair, by `pair_turn`.
-use mathlib.Core.Path.{◌≡◌, refl, sym, ap, ◌∙◌, subst₂}
+use mathlib.Core.Path.{◌≡◌, sym, ap, ◌∙◌, subst₂}
 use mathlib.Core.Bool.{false}
 use mathlib.Core.List.{List}
-use Prim.Native.Nat.{ℕ, ◌≤◌}
+use Prim.Native.Nat.{ℕ}
 use native.Mathlib.Omega.{arith}
 use lib.Dec.{eqb}
-use lib.ListN.{length, get_or, take}
-use lib.Seq.{length-take-le}
+use lib.ListN.{get_or}
 use borrow.Author.Tests.{eqb-true}
 use Rattle.binar.specs.Rows.{val, lowest}
 use Rattle.blocks.specs.Words.{rows_in_lem}
@@ -16,24 +15,15 @@ use Rattle.self_inverse.proofs.Pairs.{unpaired}
 use Rattle.self_inverse.proofs.Turns.{pair_turn, pair_room}
 use borrow.Author.Rules.{rules}
 use Rattle.self_inverse.proofs.peel_pair.Goals as goal
-use Rattle.self_inverse.proofs.peel_pair.Goals.{After-row-s, Start}
-
--- the vectors that stand are in the list
-stand : (c : goal.Start) → c.args.k ≤ length (rows_in_lem c.args.list.now)
-stand c = let p = c.requires in omega (arith, p.0.room, p.2)
-
-listed : (c : goal.Start) → length (take c.args.k (rows_in_lem c.args.list.now)) ≡ c.args.k
-listed c = length-take-le c.args.k (rows_in_lem c.args.list.now) (stand c)
+use Rattle.self_inverse.proofs.peel_pair.Goals.{After-row-s}
 
 pub returns-then-is_zero : goal.returns-then-is_zero
 returns-then-is_zero c =
     let s = c.args in
     let R = rows_in_lem s.rows.now in
     let row = c.row-f in
-    let zero : val row.result ≡ 0 = eqb-true (val row.result) 0 (sym c.is_zero.ensures ∙ c.if-is_zero.true) in record {
-      paired = unpaired s.i R (take s.k (rows_in_lem s.list.now)) c.requires.0.square c.requires.1 (times_unit s.i R ∙ sym row.ensures ∙ zero);
-      room = (stand (goal.at.returns-then-is_zero c).Start, refl);
-    }
+    let zero : val row.result ≡ 0 = eqb-true (val row.result) 0 (sym c.is_zero.ensures ∙ c.if-is_zero.true) in
+    unpaired s.i R s.list.now c.requires.0.square c.requires.1 (times_unit s.i R ∙ sym row.ensures ∙ zero)
 
 -- row i has a one
 other : (c : goal.After-row-s) → eqb (val c.row-f.result) 0 ≡ false
@@ -49,9 +39,11 @@ put_pair-requires c =
     let s = c.args in
     let R = rows_in_lem s.rows.now in
     let row = c.row-f in
-    let vs = take s.k (rows_in_lem s.list.now) in
-    let room = pair_room R p.0.square p.1 p.0.narrow s.i (val row.result) (val c.row-s.result) row.ensures (partner (goal.at.put_pair-requires c).After-row-s) (other (goal.at.put_pair-requires c).After-row-s) vs (omega (arith, listed (goal.at.put_pair-requires c).Start, p.2)) in
-    (stand (goal.at.put_pair-requires c).Start, omega (arith, p.0.narrow, p.2), omega (arith, room, p.0.room))
+    omega (
+      arith,
+      p.0.narrow,
+      pair_room R p.0.square p.1 p.0.narrow s.i (val row.result) (val c.row-s.result) row.ensures (partner (goal.at.put_pair-requires c).After-row-s) (other (goal.at.put_pair-requires c).After-row-s) s.list.now p.2,
+    )
 
 pub returns : goal.returns
 returns c =
@@ -61,11 +53,6 @@ returns c =
     let row = c.row-f in
     let f = val row.result in
     let g = val c.row-s.result in
-    let vs = take s.k (rows_in_lem s.list.now) in
-    let put = c.put_pair.ensures in
     let left = c.add_outer-2.ensures ∙ ap (plus_outer g f) c.add_outer.ensures in
-    let q = pair_turn R p.0.square p.1 p.0.narrow s.i f g row.ensures (partner (goal.at.returns c).After-row-s) (other (goal.at.returns c).After-row-s) vs in
-    let room = pair_room R p.0.square p.1 p.0.narrow s.i f g row.ensures (partner (goal.at.returns c).After-row-s) (other (goal.at.returns c).After-row-s) vs (omega (arith, listed (goal.at.returns c).Start, p.2)) in record {
-      paired = subst₂ (λ (x l : List ℕ). Paired s.i R x vs l) (sym left) (sym put.2) q;
-      room = (omega (arith, put.0, put.1, room, p.0.room), put.1);
-    }
+    subst₂ (λ (x l : List ℕ). Paired s.i R x s.list.now l) (sym left) (sym c.put_pair.ensures)
+    (pair_turn R p.0.square p.1 p.0.narrow s.i f g row.ensures (partner (goal.at.returns c).After-row-s) (other (goal.at.returns c).After-row-s) s.list.now)

@@ -33,11 +33,10 @@ pub record SymmetricSquare (R : List ℕ) : Type 0 where
   pub symmetric : (x y : ℕ) → dot (times x R) y ≡ dot x (times y R)
   pub bounded : All (λ v. v < 2 ^ length R) R
 
--- one to be peeled off into a list, which has room for one vector more than it has rows
-pub record Peelable (R list : List ℕ) : Type 0 where
+-- one whose rows are no wider than a row can be: a list has room for what is peeled off it
+pub record Peelable (R : List ℕ) : Type 0 where
   pub square : SymmetricSquare R
   pub narrow : length R ≤ width
-  pub room : length R < length list
 
 -- each vector times it has no dot with itself: of a symmetric matrix, the diagonal is zero
 abbrev pub Level : List ℕ → Type 0

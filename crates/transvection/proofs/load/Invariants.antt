@@ -7,4 +7,4 @@ use Rattle.actions.specs.Actions.{matrix}
 use Rattle.transvection.proofs.load.Given as goal
 
 abbrev pub invariant-loop-i : goal.invariant-loop-i
-invariant-loop-i l = rows_in_lem l.w ≡ take l.i (matrix l.a) ++ drop l.i (rows_in_lem l.initial.w)
+invariant-loop-i l = rows_in_lem l.w ≡ take l.i (matrix l.fn.a) ++ drop l.i (rows_in_lem l.initial.w)

@@ -1,24 +1,28 @@
--- `store_reversed` lays the turns from the last to the first, one by one, by `back_at`, `laid_next` and `laid_end`.
-use mathlib.Core.Path.{◌∙◌}
-use mathlib.Core.List.{reverse}
+-- `store_reversed` copies the words of the turns and reverses them, by `back_laid`.
+use mathlib.Core.Path.{◌≡◌, sym, ap, ap₂, ◌∙◌}
+use mathlib.Core.List.{◌++◌, reverse}
 use native.Mathlib.Omega.{arith}
-use lib.ListN.{take}
-use Rattle.blocks.specs.Words.{rows_in_lem}
-use Rattle.blocks.proofs.Values.{laid_next, laid_end}
-use Rattle.transvection.proofs.Kept.{back_length, back_at}
-use borrow.Author.Rules.{rules}
+use lib.ListN.{length, take, drop}
+use lib.Seq.{length-take-le}
+use Rattle.std.proofs.lemmas.List.{take_at, drop_at}
+use Rattle.transvection.proofs.Kept.{words_within, back_laid}
 use Rattle.transvection.proofs.store_reversed.Goals as goal
+use Rattle.transvection.proofs.store_reversed.Goals.{Start}
 
-pub loop-k-preserved : goal.loop-k-preserved
-loop-k-preserved c =
-    let s = c.args in
-    let at = c.loop-k in
-    let l = rows_in_lem s.kept.now in
-    laid_next s.n (reverse (take s.count l)) s.out.now at.out at.k _ _ (omega (arith, back_length l s.count c.requires.0)) (omega arith) at.invariant c.word.ensures
-    (c.row-u.ensures ∙ back_at l s.count c.requires.0 at.k (search rules))
+copied : (c : goal.Start) → length (take c.args.count c.args.kept.now) ≡ c.args.count
+copied c = let s = c.args in length-take-le s.count s.kept.now (words_within s.kept.now s.count c.requires.0)
+
+pub slice_bounds-copy_from_slice-end-3 : goal.slice_bounds-copy_from_slice-end-3
+slice_bounds-copy_from_slice-end-3 c = sym (copied (goal.at.slice_bounds-copy_from_slice-end-3 c).Start)
+
+pub copy_from_slice-requires : goal.copy_from_slice-requires
+copy_from_slice-requires c = length-take-le c.args.count c.args.out.now c.requires.1 ∙ sym (copied (goal.at.copy_from_slice-requires c).Start)
 
 pub returns : goal.returns
 returns c =
     let s = c.args in
-    let l = rows_in_lem s.kept.now in
-    c.loop-k.invariant ∙ laid_end s.n (reverse (take s.count l)) s.out.now c.loop-k.k (omega (arith, back_length l s.count c.requires.0))
+    let front = c.copy_from_slice.new.self in
+    let rest = drop s.count s.out.now in
+    let size = ap length c.copy_from_slice.ensures.after ∙ copied (goal.at.returns c).Start in
+    ap₂ ◌++◌ (c.reverse.ensures.after ∙ ap reverse (take_at front rest s.count size ∙ c.copy_from_slice.ensures.after)) (drop_at front rest s.count size)
+    ∙ back_laid s.n s.kept.now s.out.now s.count c.requires.0 c.requires.1 (λ i. omega (arith, c.type_inv.kept i))

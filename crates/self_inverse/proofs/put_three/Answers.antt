@@ -1,1 +1,0 @@
--- `put_three` puts three sums one behind the other, by `three_put`.
