@@ -1,5 +1,5 @@
 // Records counted by their kinds, and the counts printed.
-ghost use Rattle.std.specs.Prelude.{◌≡◌, ◌<◌, IfSome, replicate, slice_get, slice_set};
+ghost use Rattle.std.specs.Prelude.{◌≡◌, ◌<◌, IfSome, replicate, slice_get, slice_set, IsOk};
 ghost use Rattle.records.specs.Scores.{one_more, counted_in};
 
 use std::io::Print;
@@ -52,7 +52,7 @@ impl<const KINDS: usize> Score<KINDS> {
     }
 
     // Counts a record whose call was made.
-    pub fn count(&mut self, v: Verdict)
+    pub(crate) fn count(&mut self, v: Verdict)
         requires { v.kind < KINDS }
         ensures kinds { IfSome (slice_get self.old.kinds v.kind) (λ t. self.new.kinds ≡ slice_set self.old.kinds v.kind (counted_in t v.agrees)) }
         ensures unread { self.new.unread ≡ self.old.unread }
@@ -65,8 +65,10 @@ impl<const KINDS: usize> Score<KINDS> {
         }
     }
 
-    // Prints how many were not read, if any were not.
-    pub fn print_unread(&self, rt: &impl Print) -> io::Result<()> {
+    // Prints how many were not read, if any were not: where all were, nothing is printed, and nothing fails.
+    pub fn print_unread(&self, rt: &impl Print) -> io::Result<()>
+        ensures { self.now.unread ≡ 0 → IsOk result }
+    {
         if self.unread == 0 {
             return Ok(());
         }

@@ -1,5 +1,5 @@
 // Words read, laid and compared.
-ghost use Rattle.std.specs.Prelude.{◌≡◌, ℕ, ◌≤◌, ◌<◌, ◌*◌, ◌++◌, true, length, take, drop, slice_index};
+ghost use Rattle.std.specs.Prelude.{◌≡◌, ℕ, ◌≤◌, ◌<◌, ◌*◌, ◌++◌, true, length, take, drop, slice_index, min};
 ghost use Rattle.numbers.specs.Numbers.{number};
 ghost use Rattle.records.specs.Words.{fill};
 
@@ -8,12 +8,13 @@ use numbers::number_at;
 // What each lent word holds before a call.
 pub const FILL: u64 = 0xa5a5a5a5a5a5a5a5;
 
-// The first words of some bytes, and FILL behind them.
+// The first words of some bytes, of at most 8 bytes each and as far as there is room, and FILL behind them.
 pub fn words_of<const N: usize>(bytes: &[u8], size: usize, count: usize) -> [u64; N]
-    requires { (size ≤ 8) × (count ≤ N) }
-    ensures words { (i : ℕ) → i < count → slice_index result i ≡ number bytes.now (i * size) size }
-    ensures behind { (i : ℕ) → count ≤ i → i < N → slice_index result i ≡ fill }
+    ensures words { (i : ℕ) → i < min count N → slice_index result i ≡ number bytes.now (i * min size 8) (min size 8) }
+    ensures behind { (i : ℕ) → min count N ≤ i → i < N → slice_index result i ≡ fill }
 {
+    let size = size.min(8);
+    let count = count.min(N);
     let mut words = [FILL; N];
     for (i, word) in words[..count].iter_mut().enumerate() {
         *word = number_at(bytes, (i * size) as u64, 0, size as u64);
