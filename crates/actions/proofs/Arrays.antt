@@ -17,8 +17,6 @@ use lib.Pointwise.{pointwise}
 use mathlib.Core.Bool.{◌&&◌}
 use Rattle.symplectic.specs.Matches.{same_rows}
 use Rattle.blocks.proofs.Overs.{over_more}
-use Rattle.blocks.proofs.Values.{rows_are}
-use Rattle.blocks.specs.Words.{rows_of_words}
 use Rattle.actions.specs.declared.Action.{Action}
 use Rattle.symplectic.specs.Sizes.{max_qubits, most_rows, capped}
 use Rattle.actions.specs.Actions.{vals, qubits, matrix, padded}
@@ -117,10 +115,6 @@ pads (x ∷ w) (suc m) (suc k) j (suc i) h g e =
 pub padded_rows : (w : List ℕ) (m k i : ℕ) → k ≤ m → i ≡ min (length w) m → take k (take i w ++ drop i (replicate m 0)) ≡ padded k w
 unfolding padded
 padded_rows w m k i h e = pads w m k k i h (omega arith) e
-
--- lent words hold the same rows on each number of qubits
-pub rows_any : (n m : ℕ) (w : List ℕ) → rows_of_words m w ≡ rows_of_words n w
-rows_any n m w = rows_are m w ∙ sym (rows_are n w)
 
 -- exactly as many words as there are rows
 pub padded_is : (m : ℕ) (w : List ℕ) → length w ≡ m → padded m w ≡ w

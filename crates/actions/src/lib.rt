@@ -22,7 +22,12 @@ pub struct Action {
 pub fn from_rows(n: u64, w: &[u64]) -> Action
     ensures { (qubits result ≡ capped_of n) × (matrix result ≡ padded (capped_of n + capped_of n) (rows_in_lem w.now)) }
 {
-    from_words(n, w)
+    let mut rows = [Row::zero(); MOST_ROWS];
+    // by number: how many words a row takes is known to blocks alone
+    for i in 0..blocks::rows_in(w).min(MOST_ROWS) {
+        rows[i] = blocks::row(w, i);
+    }
+    Action { n: n, rows: rows }
 }
 
 // The action that lent words hold.

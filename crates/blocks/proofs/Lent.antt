@@ -62,11 +62,16 @@ pub lent_few : (ws : List ℕ) → length (rows_in_lem ws) ≤ length ws
 unfolding rows_of_words
 lent_few ws = le_refl (length ws)
 
--- the words of the first k rows copied over others
-pub lent_copied : (k to : ℕ) (ws out : List ℕ) → to ≡ min (min (words_for k) (length ws)) (length out)
+-- no more rows than words hold take no more words
+pub lent_room : (m : ℕ) (ws : List ℕ) → m ≤ length (rows_in_lem ws) → words_for m ≤ length ws
+unfolding rows_of_words words_for
+lent_room m ws h = h
+
+-- the words of the first m rows, as many as both hold and k at most, copied over those of others
+pub lent_copied : (k m to : ℕ) (ws out : List ℕ) → m ≡ min (min k (length (rows_in_lem ws))) (length (rows_in_lem out)) → to ≡ min (words_for m) (length ws)
     → rows_in_lem (take to ws ++ drop to out) ≡ over (take k (rows_in_lem ws)) (rows_in_lem out)
 unfolding rows_of_words words_for
-lent_copied k to ws out e =
+lent_copied k m to ws out few e =
     ap (λ (x : List ℕ). x ++ drop to out) (sym (take-take to k ws (omega arith)))
     ∙ over_end (take k ws) out to (omega (arith, length-take k ws))
 

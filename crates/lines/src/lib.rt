@@ -2,33 +2,23 @@
 // Not in the source.
 #![tactic(auto)]
 
-ghost use Rattle.std.specs.Prelude.{◌≡◌, ℕ, List, [], ◌∷◌, ◌++◌, ◌+◌, ◌≤◌, length, take};
+ghost use Rattle.std.specs.Prelude.{◌≡◌, [], ◌∷◌, ◌++◌, ◌+◌, ◌≤◌, length, take};
 ghost use Rattle.binar.specs.Rows.{val};
 ghost use Rattle.blocks.specs.Words.{rows_of_words};
 ghost use Rattle.letters.specs.Letters.{spelling};
 ghost use Rattle.lines.specs.Lines.{decimal as decimal_of, touched as touched_of, load as load_of, space, spelled as spelled_of, field as field_of, line as line_of, file_line_lem};
-ghost use Rattle.lines.specs.Bytes.{line_room, laid_bytes, name_bytes};
+ghost use Rattle.lines.specs.Bytes.{line_room, bytes_of, laid_bytes, name_bytes};
 
 use binar::Row;
 use questions::Figures;
-use std::marker::Model;
 
 // How many bytes a line has room for: the longest greedy list fits. What does not fit is cut.
 pub const LINE_ROOM: usize = 4608;
 
-#[derive(Drop)]
+#[derive(Clone, Copy)]
 pub struct Line {
-    bytes: [u8; LINE_ROOM],
-    count: usize,
-}
-
-// Contracts see its bytes.
-impl Model for Line {
-    ghost Value = { List ℕ };
-
-    ghost view = { λ l. take l.count l.bytes };
-
-    ghost invariant = { λ l. l.count ≤ 4608 };
+    pub bytes: [u8; LINE_ROOM],
+    pub count: usize,
 }
 
 #[derive(Clone, Copy, Debug, PartialEq, Eq, Hash)]
@@ -38,8 +28,9 @@ pub enum Name {
 }
 
 impl Line {
+    #[tactic(auto, unfolding(crate::specs::Bytes::bytes_of))]
     fn new() -> Line
-        ensures { result ≡ [] }
+        ensures { bytes_of result ≡ [] }
     {
         Line {
             bytes: [0; LINE_ROOM],
@@ -47,23 +38,25 @@ impl Line {
         }
     }
 
+    #[tactic(auto, using(crate::proofs::Cuts::bytes_shown))]
     pub fn as_slice(&self) -> &[u8]
-        ensures { result.now ≡ self.now }
+        ensures { result.now ≡ bytes_of self.now }
     {
-        &self.bytes[..self.count]
+        &self.bytes[..self.len()]
     }
 
     // How many bytes a line has.
+    #[tactic(auto, using(crate::proofs::Cuts::bytes_length))]
     pub fn len(&self) -> usize
-        ensures counted { result ≡ length self.now }
-        ensures within { length self.now ≤ line_room }
+        ensures counted { result ≡ length (bytes_of self.now) }
+        ensures within { length (bytes_of self.now) ≤ line_room }
     {
-        self.count
+        self.count.min(LINE_ROOM)
     }
 
     // Lays a line from the start of lent bytes.
     pub fn lay(&self, out: &mut [u8])
-        ensures { out.new ≡ laid_bytes self.now out.old }
+        ensures { out.new ≡ laid_bytes (bytes_of self.now) out.old }
     {
         let text = self.as_slice();
         let k = text.len().min(out.len());
@@ -71,7 +64,7 @@ impl Line {
     }
 
     fn push(&mut self, b: u8)
-        ensures { self.new ≡ take line_room (self.old ++ (b ∷ [])) }
+        ensures { bytes_of self.new ≡ take line_room (bytes_of self.old ++ (b ∷ [])) }
     {
         if self.count < LINE_ROOM {
             self.bytes[self.count] = b;
@@ -80,17 +73,17 @@ impl Line {
     }
 
     fn append(&mut self, text: &[u8])
-        ensures { self.new ≡ take line_room (self.old ++ text.now) }
+        ensures { bytes_of self.new ≡ take line_room (bytes_of self.old ++ text.now) }
     {
-        let _ = &self.bytes; // opens the line: its bytes have room
-        for b in text {
+        let m = text.len().min(LINE_ROOM - self.len());
+        for b in &text[..m] {
             self.push(*b);
         }
     }
 
     // A load may pass 64 bits.
     fn decimal(&mut self, v: u128)
-        ensures { self.new ≡ take line_room (self.old ++ decimal_of v) }
+        ensures { bytes_of self.new ≡ take line_room (bytes_of self.old ++ decimal_of v) }
     {
         let digit = b'0' + (v % 10) as u8;
         if v < 10 {
@@ -102,14 +95,14 @@ impl Line {
     }
 
     fn field(&mut self, v: u128)
-        ensures { self.new ≡ take line_room (self.old ++ field_of v) }
+        ensures { bytes_of self.new ≡ take line_room (bytes_of self.old ++ field_of v) }
     {
         self.push(b' ');
         self.decimal(v);
     }
 
     fn name(&mut self, which: Name)
-        ensures { self.new ≡ take line_room (self.old ++ name_bytes which) }
+        ensures { bytes_of self.new ≡ take line_room (bytes_of self.old ++ name_bytes which) }
     {
         match which {
             Name::Min => self.append(b"min"),
@@ -119,11 +112,10 @@ impl Line {
 
     // The letters of a vector of n qubits.
     fn letters(&mut self, n: usize, v: Row)
-        ensures { self.new ≡ take line_room (self.old ++ spelling n (val v)) }
+        ensures { bytes_of self.new ≡ take line_room (bytes_of self.old ++ spelling n (val v)) }
     {
         let high = v.shift_down(n);
-        let m = n.min(LINE_ROOM);
-        let _ = &self.bytes; // opens the line: its bytes have room
+        let m = n.min(LINE_ROOM - self.len());
         // by number: a qubit has two bits of a row
         for q in 0..m {
             self.push(u8::from(letters::of_bits(v.bit(q), high.bit(q))));
@@ -132,9 +124,8 @@ impl Line {
 
     // Each vector of n qubits, after a space.
     fn spelled(&mut self, n: usize, words: &[u64])
-        ensures { self.new ≡ take line_room (self.old ++ spelled_of n (rows_of_words n words.now)) }
+        ensures { bytes_of self.new ≡ take line_room (bytes_of self.old ++ spelled_of n (rows_of_words n words.now)) }
     {
-        let _ = &self.bytes; // opens the line: its bytes have room
         for w in words {
             self.push(b' ');
             self.letters(n, Row::from(*w));
@@ -143,7 +134,7 @@ impl Line {
 
     // The entry number and the name.
     fn front(&mut self, i: u64, which: Name)
-        ensures { self.new ≡ take line_room (self.old ++ (decimal_of i ++ (space ∷ name_bytes which))) }
+        ensures { bytes_of self.new ≡ take line_room (bytes_of self.old ++ (decimal_of i ++ (space ∷ name_bytes which))) }
     {
         self.decimal(u128::from(i));
         self.push(b' ');
@@ -152,7 +143,7 @@ impl Line {
 
     // The refusal, the vector count, the load and the looks.
     fn numbers(&mut self, figures: Figures, load: u128)
-        ensures { self.new ≡ take line_room (self.old ++ field_of figures.number ++ field_of figures.count ++ field_of load ++ field_of figures.looks) }
+        ensures { bytes_of self.new ≡ take line_room (bytes_of self.old ++ field_of figures.number ++ field_of figures.count ++ field_of load ++ field_of figures.looks) }
     {
         self.field(u128::from(figures.number));
         self.field(u128::from(figures.count));
@@ -182,7 +173,7 @@ fn load(n: usize, words: &[u64]) -> u128
 
 // The line of entry i, of n qubits: the figures of a call's answer, and the words that it left.
 pub fn entry_line(n: u64, i: u64, which: Name, figures: Figures, words: &[u64]) -> Line
-    ensures { result ≡ take line_room (line_of n i (name_bytes which) (record { figures = figures; words = words.now })) }
+    ensures { bytes_of result ≡ take line_room (line_of n i (name_bytes which) (record { figures = figures; words = words.now })) }
 {
     let m = n as usize;
     let k = (figures.count as usize).min(words.len());
@@ -197,7 +188,7 @@ pub fn entry_line(n: u64, i: u64, which: Name, figures: Figures, words: &[u64]) 
 
 // The one line of a refused file.
 pub fn file_line(number: u64) -> Line
-    ensures { result ≡ file_line_lem number }
+    ensures { bytes_of result ≡ file_line_lem number }
 {
     let mut l = Line::new();
     l.append(b"file");

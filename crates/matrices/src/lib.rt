@@ -49,6 +49,7 @@ pub fn lay(n: u64, w: &[u64], out: &mut [u64])
 pub fn put_front(k: usize, w: &[u64], out: &mut [u64])
     ensures { rows_in_lem out.new ≡ over (take k (rows_in_lem w.now)) (rows_in_lem out.old) }
 {
-    let m = blocks::start(w, k).min(out.len());
-    out[..m].copy_from_slice(&w[..m]);
+    let m = k.min(blocks::rows_in(w)).min(blocks::rows_in(out));
+    let end = blocks::start(w, m);
+    out[..end].copy_from_slice(&w[..end]);
 }

@@ -9,7 +9,7 @@ ghost use Rattle.gates.specs.Sequences.{table_reply};
 ghost use Rattle.numbers.specs.Numbers.{part};
 ghost use Rattle.job.specs.Files.{qubit_count_lem, entry_count_lem, entry, file_questions_lem};
 ghost use Rattle.lines.specs.Lines.{line};
-ghost use Rattle.lines.specs.Bytes.{line_room, name_bytes};
+ghost use Rattle.lines.specs.Bytes.{line_room, bytes_of, name_bytes};
 ghost use Rattle.printout.specs.Printout.{blank_words, list_words, words_of_bytes, entry_action, call_reply, entry_line, file_lines};
 ghost use Rattle.printout.specs.Pages.{page_reply, Onward, answer_of};
 ghost use Rattle.printout.specs.inner.Held.{entry_number, Held};
@@ -95,7 +95,7 @@ fn gate_rows(n: u64, bytes: &[u8]) -> Result<[u64; MOST_ROWS], EntryError>
 #[tactic(auto, using(lines::proofs::Fits::line_figures))]
 fn refusal_line(n: u64, i: u64, which: Name, number: u64) -> Line
     requires { n ≤ max_qubits }
-    ensures { result ≡ line n i (name_bytes which) (refused number 0 []) }
+    ensures { bytes_of result ≡ line n i (name_bytes which) (refused number 0 []) }
 {
     lines::entry_line(n, i, which, questions::nothing_listed(number), &[])
 }
@@ -121,7 +121,7 @@ fn call(which: Name, n: u64, rows: &[u64], out: &mut [u64]) -> Figures
 #[tactic(auto, using(crate::proofs::Lent::lent_length, crate::proofs::Lent::left_room, crate::proofs::Lent::left_count))]
 fn answer_line(n: u64, i: u64, which: Name, rows: [u64; MOST_ROWS]) -> Line
     requires { n ≤ max_qubits }
-    ensures { result ≡ line n i (name_bytes which) (call_reply which n (take (n + n) rows) (list_words n)) }
+    ensures { bytes_of result ≡ line n i (name_bytes which) (call_reply which n (take (n + n) rows) (list_words n)) }
 {
     let mut out: [u64; LIST_ROOM] = [0; LIST_ROOM];
     let m = (n + n) as usize;
@@ -173,7 +173,7 @@ impl<'a> Job<'a> {
     #[tactic(auto, using(crate::proofs::Printing::line_passed, crate::proofs::Printing::line_refused))]
     fn line_of(&self, i: u64, which: Name) -> Line
         requires { i < entry_count_lem self.now.file.now }
-        ensures { result ≡ entry_line self.now.file.now i which }
+        ensures { bytes_of result ≡ entry_line self.now.file.now i which }
     {
         match self.entry_rows(i) {
             Ok(rows) => answer_line(self.n, i, which, rows),
@@ -185,7 +185,7 @@ impl<'a> Job<'a> {
     #[tactic(auto, using(crate::proofs::Numbered::file_named))]
     fn line_at(&self, k: u64) -> Line
         requires { k < self.now.lines }
-        ensures { result ≡ get_or (file_lines self.now.file.now) k [] }
+        ensures { bytes_of result ≡ get_or (file_lines self.now.file.now) k [] }
     {
         let i = k / 2;
         if k % 2 == 0 {

@@ -5,7 +5,8 @@
 pub mod score;
 pub mod words;
 
-ghost use Rattle.std.specs.Prelude.{◌≡◌, ◌≤◌, ◌<◌, ℕ, length, IfSome, IsErrOf, IsOk, ◌↔◌};
+ghost use Rattle.std.specs.Prelude.{◌≡◌, ◌≤◌, ◌<◌, ◌+◌, ◌*◌, ℕ, length, IfSome, IsErrOf, IsOk, OnErr, ◌↔◌};
+ghost use Rattle.reading.specs.Parts.{TakesUpTo};
 
 use reading::read_full;
 use score::{Score, Verdict};
@@ -64,10 +65,13 @@ fn whole(got: usize, size: usize) -> Result<(), End>
 }
 
 // Reads a record and counts it.
-fn next_record<const KINDS: usize, R: Record<KINDS>>(
-    input: &mut impl Read,
+fn next_record<const KINDS: usize, R: Record<KINDS>, I: Read>(
+    input: &mut I,
     score: &mut Score<KINDS>,
-) -> Result<(), End> {
+) -> Result<(), End>
+    ensures part { TakesUpTo (I.remaining input.old) (I.remaining input.new) (64 + 4096) }
+    ensures ended { OnErr result (score.new ≡ score.old) }
+{
     let mut head = [0u8; HEAD_ROOM];
     let head = &mut head[..R::HEAD];
     let got = read_full(input, head);
@@ -88,10 +92,12 @@ fn next_record<const KINDS: usize, R: Record<KINDS>>(
 
 // Reads the records one by one and counts them, to the end of the input. A record that is cut short or asks for too much room is the last
 // one and counts as not read; so does input whose end is not met by MOST records.
-pub fn read_all<const KINDS: usize, R: Record<KINDS>>(input: &mut impl Read) -> Score<KINDS> {
+pub fn read_all<const KINDS: usize, R: Record<KINDS>, I: Read>(input: &mut I) -> Score<KINDS>
+    ensures { TakesUpTo (I.remaining input.old) (I.remaining input.new) (100000 * (64 + 4096)) }
+{
     let mut score = Score::<KINDS>::new();
     for _ in 0..MOST {
-        match next_record::<KINDS, R>(input, &mut score) {
+        match next_record::<KINDS, R, I>(input, &mut score) {
             Ok(()) => {}
             Err(End::NoMore) => return score,
             Err(End::CutShort) => break,

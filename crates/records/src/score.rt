@@ -19,6 +19,19 @@ pub struct Counts {
     pub differ: u64,
 }
 
+impl Counts {
+    // Counts a record that agrees, or differs.
+    pub fn count(&mut self, agrees: bool)
+        ensures { self.new ≡ counted_in self.old agrees }
+    {
+        if agrees {
+            self.agree = self.agree.saturating_add(1);
+        } else {
+            self.differ = self.differ.saturating_add(1);
+        }
+    }
+}
+
 impl fmt::Display for Counts {
     fn fmt<W: fmt::Write>(&self, f: &mut fmt::Formatter<W>) -> fmt::Result {
         write!(f, "{} agree, {} differ", self.agree, self.differ)
@@ -57,12 +70,7 @@ impl<const KINDS: usize> Score<KINDS> {
         ensures kinds { IfSome (slice_get self.old.kinds v.kind) (λ t. self.new.kinds ≡ slice_set self.old.kinds v.kind (counted_in t v.agrees)) }
         ensures unread { self.new.unread ≡ self.old.unread }
     {
-        let k = &mut self.kinds[v.kind];
-        if v.agrees {
-            k.agree = k.agree.saturating_add(1);
-        } else {
-            k.differ = k.differ.saturating_add(1);
-        }
+        self.kinds[v.kind].count(v.agrees);
     }
 
     // Prints how many were not read, if any were not: where all were, nothing is printed, and nothing fails.

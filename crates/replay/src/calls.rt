@@ -1,10 +1,11 @@
-// The calls, each with its figures.
-ghost use Rattle.std.specs.Prelude.{◌≡◌, ◌≤◌, length};
+// The calls, each with its figures, and whether these are a record's.
+ghost use Rattle.std.specs.Prelude.{◌≡◌, ◌≤◌, ◌↔◌, IsTrue, length};
+ghost use Rattle.replay.specs.inner.Records.{Alike};
 
 use crate::kind::Kind;
 use crate::{Case, LENT};
 use questions::{Figures, Refusal, figures_of};
-use records::words::lay;
+use records::words::{alike, lay};
 use symplectic::MOST_VECTORS;
 
 // The low bytes of some words.
@@ -32,20 +33,12 @@ fn shorter_words(c: &Case, lent: &[u64], out: &mut [u64]) -> Figures
     let (rows, lists) = lent.split_at(c.rows);
     let (first, second) = lists.split_at(c.first);
     let chosen = shorter::chosen_of(shorter::choose(c.n, rows, first, second));
-    match shorter::shorter_list(c.n, rows, first, second) {
-        Ok(list) => {
-            lay(list, out);
-            Figures {
-                number: 0,
-                count: list.len() as u64,
-                looks: chosen.list,
-            }
-        }
-        Err(e) => Figures {
-            number: e.number(),
-            count: 0,
-            looks: chosen.list,
-        },
+    let shorter = shorter::shorter_list(c.n, rows, first, second);
+    lay(shorter.part, out);
+    Figures {
+        number: shorter::chosen_of(shorter.choice).number,
+        count: shorter.part.len() as u64,
+        looks: chosen.list,
     }
 }
 
@@ -68,7 +61,8 @@ fn self_inverse_words(n: u64, rows: &[u64], out: &mut [u64]) -> Figures {
     }
 }
 
-fn figures(c: &Case, kind: Kind, lent: &[u64], out: &mut [u64]) -> Figures
+// The figures of the call of a kind: the number of the refusal, the count, and the looks.
+pub(crate) fn call(c: &Case, kind: Kind, lent: &[u64], out: &mut [u64]) -> Figures
     requires { length lent.now ≡ c.now.lent }
 {
     match kind {
@@ -84,10 +78,10 @@ fn figures(c: &Case, kind: Kind, lent: &[u64], out: &mut [u64]) -> Figures
     }
 }
 
-// The figures of the call of a kind: the number of the refusal, the count, and the looks.
-pub(crate) fn call(c: &Case, kind: Kind, lent: &[u64], out: &mut [u64]) -> [u64; 3]
-    requires { length lent.now ≡ c.now.lent }
+// Whether an answer is that of the record: its figures, and every word.
+pub(crate) fn answered(c: &Case, a: Figures, want: &[u64], out: &[u64]) -> bool
+    ensures { IsTrue result ↔ Alike c.now a × (want.now ≡ out.now) }
 {
-    let f = figures(c, kind, lent, out);
-    [f.number, f.count, f.looks]
+    let figures = [a.number, a.count, a.looks];
+    alike([c.number, c.count as u64, c.looks], figures, want, out)
 }

@@ -14,7 +14,7 @@ use kind::{KINDS, Kind};
 use numbers::number_at;
 use records::Record;
 use records::score::{Counts, Verdict};
-use records::words::{FILL, alike, words_of};
+use records::words::{FILL, words_of};
 use std::io;
 
 // How many words are lent at most, and how many output words.
@@ -106,11 +106,11 @@ fn agrees(c: &Case, kind: Kind, bytes: &[u8]) -> bool
     let want = words_of::<ROOM>(listed, c.size, c.count);
     let mut out = [FILL; ROOM];
     let figures = calls::call(c, kind, &lent[..c.lent], &mut out[..c.room]);
-    alike([c.number, c.count as u64, c.looks], figures, &want, &out)
+    calls::answered(c, figures, &want, &out)
 }
 
 fn main(rt: HostRuntime) -> io::Result<()> {
-    let score = records::read_all::<KINDS, Case>(&mut rt.stdin());
+    let score = records::read_all::<KINDS, Case, _>(&mut rt.stdin());
     for (kind, counts) in Kind::ALL.iter().zip(&score.kinds) {
         if *counts != Counts::default() {
             println!(rt; "{kind} {counts}")?;

@@ -4,12 +4,13 @@
 // Not in the source.
 #![tactic(auto)]
 
-ghost use Rattle.std.specs.Prelude.{◌≡◌, ◌*◌, ◌-◌, ◌≤◌, length};
+ghost use Rattle.std.specs.Prelude.{◌≡◌, ◌*◌, ◌-◌, ◌≤◌, ◌↔◌, IsTrue, length};
 ghost use Rattle.std.proofs.Common.{rules};
 ghost use Rattle.records.proofs.Sizes.{words_have_room};
 
 use memory::ENTRY;
 use numbers::number_at;
+use questions::Figures;
 use records::Record;
 use records::score::Verdict;
 use records::words::{FILL, alike, lay, words_of};
@@ -123,12 +124,20 @@ fn memory_of(entries: usize, words: &[u64]) -> [u64; MEMORY]
 }
 
 // The figures of the call.
-fn call(c: &Case, rows: &[u64], memory: &mut [u64], out: &mut [u64]) -> [u64; 3] {
+fn call(c: &Case, rows: &[u64], memory: &mut [u64], out: &mut [u64]) -> Figures {
     let a = transvection_exact::clifford_to_transvections_minimal_remembering(
         c.n, rows, c.budget, memory, out,
     );
-    let f = transvection_exact::figures_of(a);
-    [f.number, f.count, f.looks]
+    transvection_exact::figures_of(a)
+}
+
+// Whether an answer is that of the record: its figures, and every word of the list.
+fn answered(c: &Case, a: Figures, want: &[u64], out: &[u64]) -> bool
+    ensures { IsTrue result ↔ (a.number ≡ c.now.number) × (a.count ≡ c.now.count)
+        × (a.looks ≡ c.now.looks) × (want.now ≡ out.now) }
+{
+    let figures = [a.number, a.count, a.looks];
+    alike([c.number, c.count as u64, c.looks], figures, want, out)
 }
 
 // Makes the call of a record and compares all that it answers and leaves, words past the list and past the entries among them.
@@ -141,12 +150,11 @@ fn agrees(c: &Case, words: &[u64]) -> bool
     let mut memory = [FILL; MEMORY];
     let mut out = [FILL; ROOM];
     let figures = call(c, rows, &mut memory[..c.memory], &mut out[..c.room]);
-    let want = [c.number, c.count as u64, c.looks];
-    alike(want, figures, &output_of(list), &out) && want_memory == memory
+    answered(c, figures, &output_of(list), &out) && want_memory == memory
 }
 
 fn main(rt: HostRuntime) -> io::Result<()> {
-    let score = records::read_all::<1, Case>(&mut rt.stdin());
+    let score = records::read_all::<1, Case, _>(&mut rt.stdin());
     println!(rt; "memory {}", score.kinds[0])?;
     score.print_unread(&rt)
 }

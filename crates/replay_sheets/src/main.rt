@@ -4,11 +4,12 @@
 // Not in the source.
 #![tactic(auto)]
 
-ghost use Rattle.std.specs.Prelude.{◌≡◌, ◌+◌, ◌*◌, ◌≤◌, length};
+ghost use Rattle.std.specs.Prelude.{◌≡◌, ◌==◌, ◌+◌, ◌*◌, ◌≤◌, ◌↔◌, IsTrue, length, if◌then◌else◌};
 ghost use Rattle.std.proofs.Common.{rules};
 ghost use Rattle.records.proofs.Sizes.{bytes_have_room};
 
 use numbers::number_at;
+use questions::Figures;
 use records::Record;
 use records::score::Verdict;
 use records::words::{FILL, alike, words_of};
@@ -79,18 +80,33 @@ impl Record<1> for Case {
 }
 
 // The figures of a call of a sequence.
-fn play(n: u64, sheet: &[u8], gates: &[u8], out: &mut [u64]) -> [u64; 3] {
-    let f = questions::figures_of(gates::gate_action(n, sheet, gates, out));
-    [f.number, f.count, f.looks]
+fn play(n: u64, sheet: &[u8], gates: &[u8], out: &mut [u64]) -> Figures {
+    questions::figures_of(gates::gate_action(n, sheet, gates, out))
+}
+
+// How many rows an answer lists, by its number.
+fn listed(count: usize, number: u64) -> usize
+    ensures { result ≡ (if number == 0 then count else 0) }
+{
+    if number == 0 { count } else { 0 }
+}
+
+// Whether an answer is that of the record: its figures, with no looks, and every word.
+fn answered(number: u64, count: usize, a: Figures, want: &[u64], out: &[u64]) -> bool
+    ensures { IsTrue result ↔ (a.number ≡ number) × (a.count ≡ count) × (a.looks ≡ 0)
+        × (want.now ≡ out.now) }
+{
+    let figures = [a.number, a.count, a.looks];
+    alike([number, count as u64, 0], figures, want, out)
 }
 
 // Plays a sequence with a sheet and compares all that the call answers and leaves: a refusal leaves every word.
 fn plays(c: &Case, number: u64, sheet: &[u8], gates: &[u8], rows: &[u8]) -> bool {
-    let count = if number == 0 { c.count } else { 0 };
+    let count = listed(c.count, number);
     let want = words_of::<ROOM>(rows, 8, count);
     let mut out = [FILL; ROOM];
     let figures = play(c.n, sheet, gates, &mut out[..c.room]);
-    alike([number, count as u64, 0], figures, &want, &out)
+    answered(number, count, figures, &want, &out)
 }
 
 // Loads the sheet of a record, and plays its sequence twice.
@@ -107,7 +123,7 @@ fn agrees(c: &Case, bytes: &[u8]) -> bool
 }
 
 fn main(rt: HostRuntime) -> io::Result<()> {
-    let score = records::read_all::<1, Case>(&mut rt.stdin());
+    let score = records::read_all::<1, Case, _>(&mut rt.stdin());
     println!(rt; "sheets {}", score.kinds[0])?;
     score.print_unread(&rt)
 }

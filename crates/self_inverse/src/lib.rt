@@ -178,24 +178,22 @@ fn diagonal(rows: &[u64]) -> Row
     d
 }
 
-// Peels rows off a symmetric matrix into a list while its diagonal has a one. Each changes the diagonal by itself.
-fn peel(rows: &mut [u64]) -> Vectors
-    requires { Peelable (rows_in_lem rows.old) }
+// Peels rows off a symmetric matrix into an empty list while its diagonal has a one. Each changes the diagonal by itself.
+fn peel(rows: &mut [u64], list: &mut Vectors)
+    requires { Peelable (rows_in_lem rows.old) × (list.old ≡ []) }
     ensures square { length (rows_in_lem rows.new) ≡ length (rows_in_lem rows.old) }
     ensures left { SymmetricSquare (rows_in_lem rows.new) × Level (rows_in_lem rows.new) }
-    ensures split { Split (rows_in_lem rows.old) result (rows_in_lem rows.new) }
-    ensures short { length result + rank (length (rows_in_lem rows.old)) (rows_in_lem rows.new)
+    ensures split { Split (rows_in_lem rows.old) list.new (rows_in_lem rows.new) }
+    ensures short { length list.new + rank (length (rows_in_lem rows.old)) (rows_in_lem rows.new)
         ≤ rank (length (rows_in_lem rows.old)) (rows_in_lem rows.old) }
 {
     let mut d = diagonal(rows);
-    let mut list = Vectors::new();
     while !d.is_zero() {
         let v = blocks::row(rows, d.lowest());
         list.push(v);
         add_outer(v, v, rows);
         d ^= v;
     }
-    list
 }
 
 // Where row i of a symmetric matrix with zeros on its diagonal is not zero, peels it off with the row of its first one, and puts the pair
@@ -229,26 +227,25 @@ fn pair_off(rows: &mut [u64], list: &mut Vectors)
     }
 }
 
-// Takes a symmetric matrix apart: vectors that add up to it, each as a column times itself as a row.
-fn decompose(rows: &mut [u64]) -> Vectors
-    requires { Peelable (rows_in_lem rows.old) }
-    ensures { Decomposed (rows_in_lem rows.old) result }
+// Takes a symmetric matrix apart: vectors that add up to it, each as a column times itself as a row, are put into an empty list.
+fn decompose(rows: &mut [u64], list: &mut Vectors)
+    requires { Peelable (rows_in_lem rows.old) × (list.old ≡ []) }
+    ensures { Decomposed (rows_in_lem rows.old) list.new }
 {
-    let mut list = peel(rows);
-    pair_off(rows, &mut list);
-    list
+    peel(rows, list);
+    pair_off(rows, list);
 }
 
-// The vectors of commuting turns that play a self-inverse action.
-fn commuting_turns(a: Action) -> Vectors
-    requires { SymmetricSquare (residue_of (qubits a) (matrix a)) }
-    ensures { Decomposed (residue_of (qubits a) (matrix a)) result }
+// Puts the vectors of commuting turns that play a self-inverse action into an empty list.
+fn commuting_turns(a: Action, list: &mut Vectors)
+    requires { SymmetricSquare (residue_of (qubits a) (matrix a)) × (list.old ≡ []) }
+    ensures { Decomposed (residue_of (qubits a) (matrix a)) list.new }
 {
     let mut rows = [0u64; MOST_ROWS];
     let n = symplectic::capped(a.n);
     let to = blocks::start(&rows, n + n);
     residue::residue(a, &mut rows[..to]);
-    decompose(&mut rows[..to])
+    decompose(&mut rows[..to], list);
 }
 
 // A list of turns whose vectors all pair to 0, as short as any, for an action that is its own inverse.
@@ -274,7 +271,8 @@ pub fn clifford_to_transvections_self_inverse(
     if !is_self_inverse(a) {
         return Err(SelfInverseError::NotSelfInverse);
     }
-    let list = commuting_turns(a);
+    let mut list = Vectors::new();
+    commuting_turns(a, &mut list);
     matrices::lay(n, list.as_slice(), out);
     Ok(list.len() as u64)
 }

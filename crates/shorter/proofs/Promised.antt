@@ -1,7 +1,7 @@
 -- What holds of the reply: the part plays the action, neither list that does is shorter, the first comes at equal length, and 14 is
 -- given exactly if neither plays it.
 -- Assumes nothing.
-use mathlib.Core.Path.{◌≡◌, refl, sym, ap, ◌∙◌, subst}
+use mathlib.Core.Path.{◌≡◌, refl, sym, ap, ap₂, ◌∙◌, subst}
 use mathlib.Core.Bool.{Bool, true, false, true≢false}
 use mathlib.Core.Logic.{◌⊎◌, inl, inr}
 use mathlib.Core.List.{List, []}
@@ -31,6 +31,10 @@ module _ (first second : List ℕ) where
   pub part_second : (list : ℕ) → list ≡ 2 → second ≡ part_of list first second
   unfolding part_of
   part_second list e = sym (ap (λ (k : ℕ). select (select [] (eqb k 2) second) (eqb k 1) first) e)
+
+  pub part_none : (list : ℕ) → (list ≡ 1 → ⊥) → (list ≡ 2 → ⊥) → [] ≡ part_of list first second
+  unfolding part_of
+  part_none list g h = sym (ap₂ (λ (a b : Bool). select (select [] a second) b first) (ne_eqb list 2 h) (ne_eqb list 1 g))
 
 module _ {A : Type 0} (first second : A) (list : ℕ) where
   pub place_first : (list ≡ 2 → ⊥) → first ≡ place_of list first second

@@ -17,8 +17,3 @@ abbrev pub chosen_of : Result Choice ShorterError → Chosen
 chosen_of (Ok First) = chosen 1
 chosen_of (Ok Second) = chosen 2
 chosen_of (Err e) = nothing_chosen (shorter_number e)
-
--- 0 where a list is given, else the number of the refusal
-abbrev pub list_number : {A : Type 0} → Result A ShorterError → ℕ
-list_number (Ok list) = 0
-list_number (Err e) = shorter_number e

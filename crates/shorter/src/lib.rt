@@ -2,13 +2,13 @@
 // Not in the source.
 #![tactic(auto)]
 
-ghost use Rattle.std.specs.Prelude.{◌≡◌, IfOk};
+ghost use Rattle.std.specs.Prelude.{◌≡◌};
 ghost use Rattle.blocks.specs.Words.{rows_of_words};
 ghost use Rattle.symplectic.specs.Sizes.{capped};
 ghost use Rattle.actions.specs.Actions.{matrix};
 ghost use Rattle.symplectic.specs.Matches.{matches as matches_of};
 ghost use Rattle.shorter.specs.Shorter.{shorter_of_lem, shorter_reply, part_of, place_of};
-ghost use Rattle.shorter.specs.Answers.{shorter_number, chosen_of, list_number};
+ghost use Rattle.shorter.specs.Answers.{shorter_number, chosen_of};
 ghost use Rattle.shorter.specs.Promises.{Played, NeitherShorter, FirstAtEqual, Neither};
 ghost use Rattle.shorter.specs.declared.ShorterError.TheVariants.{Action};
 
@@ -102,23 +102,36 @@ pub fn choose(n: u64, rows: &[u64], first: &[u64], second: &[u64]) -> Result<Cho
     shorter_of(n, actions::from_words(n, rows), first, second)
 }
 
+// The list to play of two lent ones, and which it is: on a refusal an empty part of the first, and why.
+#[derive(Clone, Copy, Debug, PartialEq, Eq, Hash)]
+pub struct Shorter<'a> {
+    pub part: &'a [u64],
+    pub choice: Result<Choice, ShorterError>,
+}
+
 // The shorter of two lent lists whose product is the lent action: the lent list itself.
-pub fn shorter_list<'a>(
-    n: u64,
-    rows: &[u64],
-    first: &'a [u64],
-    second: &'a [u64],
-) -> Result<&'a [u64], ShorterError>
-    ensures part { IfOk result (λ list. list.now ≡ part_of (shorter_reply n rows.now first.now second.now).list first.now second.now) }
-    ensures place { IfOk result (λ list. list.ref_ptr ≡ place_of (shorter_reply n rows.now first.now second.now).list first.entry.ref_ptr second.entry.ref_ptr) }
-    ensures told { list_number result ≡ (shorter_reply n rows.now first.now second.now).number }
-    ensures played { IfOk result (λ list. Played n rows.now first.now second.now list.now 0) }
-    ensures neither_shorter { IfOk result (λ list. NeitherShorter n rows.now first.now second.now list.now 0) }
-    ensures first_at_equal { IfOk result (λ list. FirstAtEqual n rows.now first.now second.now list.now 0) }
-    ensures neither { Neither n rows.now first.now second.now (list_number result) }
+pub fn shorter_list<'a>(n: u64, rows: &[u64], first: &'a [u64], second: &'a [u64]) -> Shorter<'a>
+    ensures part { result.part.now ≡ part_of (shorter_reply n rows.now first.now second.now).list first.now second.now }
+    ensures place { result.part.ref_ptr ≡ place_of (shorter_reply n rows.now first.now second.now).list first.entry.ref_ptr second.entry.ref_ptr }
+    ensures told { chosen_of result.choice ≡ shorter_reply n rows.now first.now second.now }
+    ensures played { Played n rows.now first.now second.now result.part.now (chosen_of result.choice).number }
+    ensures neither_shorter { NeitherShorter n rows.now first.now second.now result.part.now (chosen_of result.choice).number }
+    ensures first_at_equal { FirstAtEqual n rows.now first.now second.now result.part.now (chosen_of result.choice).number }
+    ensures neither { Neither n rows.now first.now second.now (chosen_of result.choice).number }
 {
-    match choose(n, rows, first, second)? {
-        Choice::First => Ok(first),
-        Choice::Second => Ok(second),
+    let choice = choose(n, rows, first, second);
+    match choice {
+        Ok(Choice::First) => Shorter {
+            part: first,
+            choice,
+        },
+        Ok(Choice::Second) => Shorter {
+            part: second,
+            choice,
+        },
+        Err(e) => Shorter {
+            part: &first[0..0],
+            choice: Err(e),
+        },
     }
 }

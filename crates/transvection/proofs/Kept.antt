@@ -1,17 +1,13 @@
 -- The turns that lent words keep, read from the last to the first.
 -- Assumes nothing.
-use mathlib.Core.Path.{◌≡◌, refl, sym, ap, ◌∙◌}
-use mathlib.Core.List.{List, [], ◌∷◌, ◌++◌, reverse, reverse-cons, append-nil}
+use mathlib.Core.Path.{◌≡◌, sym, ap, ◌∙◌}
+use mathlib.Core.List.{List, [], ◌∷◌, reverse, reverse-cons}
 use mathlib.Core.Logic.{⊎_elim}
-use Prim.Native.Nat.{ℕ, suc, ◌-◌, ◌/◌, ◌^◌, ◌≤◌, ◌<◌}
+use Prim.Native.Nat.{ℕ, suc, ◌-◌, ◌≤◌, ◌<◌}
 use native.Mathlib.Nat.{not-suc-le-zero, le_of_suc-le-suc, eq-or-lt_of_le}
 use native.Mathlib.Omega.{arith}
-use lib.ListN.{length, get_or, take, drop, length-reverse, get_or-append}
-use lib.Seq.{take_all, get_or-take, get_or_at, length-take-le}
-use Rattle.std.proofs.lemmas.List.{ext_get_or}
-use Rattle.binar.specs.Rows.{width}
-use Rattle.blocks.specs.Words.{word_of, words_of_rows, rows_in_lem, laid}
-use Rattle.blocks.proofs.Values.{words_length, words_get, laid_end, laid_whole, rows_count, rows_word}
+use lib.ListN.{length, get_or, take, length-reverse, get_or-append}
+use lib.Seq.{get_or-take, get_or_at, length-take-le}
 
 -- the turn after the first i
 pub reverse_at : (l : List ℕ) (i : ℕ) → i < length l → get_or (reverse l) i 0 ≡ get_or l (length l - 1 - i) 0
@@ -38,42 +34,3 @@ module _ (l : List ℕ) (count : ℕ) (fits : count ≤ length l) where
       let n = length-take-le count l fits in
       sym (get_or-take count l (count - 1 - i) 0 (omega arith)) ∙ ap (λ (k : ℕ). get_or (take count l) (k - 1 - i) 0) (sym n)
       ∙ sym (reverse_at (take count l) i (omega arith))
-
--- the word of a row of 64 columns is the row
-word_self : (v : ℕ) → v < 2 ^ 64 → word_of v ≡ v
-word_self v h =
-    let one = v ∷ [] in
-    let W = words_of_rows 32 one in
-    let few : length W ≡ 1 = words_length 32 one in
-    sym (words_get 32 one 0)
-    ∙ ap (λ (l : List ℕ). get_or l 0 0)
-    (sym (append-nil W) ∙ ap (λ (l : List ℕ). l ++ []) (sym (take_all 1 W (omega (arith, few)))) ∙ laid_end 32 one (0 ∷ []) 1 refl)
-    ∙ sym (rows_word 32 (laid 32 one (0 ∷ [])) 0) ∙ ap (λ (l : List ℕ). get_or l 0 0) (laid_whole 32 (omega arith) one (0 ∷ []) (h, tt) refl)
-
--- as many words as rows
-pub words_within : (ws : List ℕ) (count : ℕ) → count ≤ length (rows_in_lem ws) → count ≤ length ws
-words_within ws count fits = omega (arith, rows_count (width / 2) ws)
-
--- the first words of a record, the last one first, are its turns laid into lent words
-module _ (n : ℕ) (ws out : List ℕ) (count : ℕ) (fits : count ≤ length (rows_in_lem ws)) (room : count ≤ length out) (words : (i : ℕ) → get_or ws i 0 < 2 ^ 64) where
-  abbrev turns : List ℕ
-  turns = reverse (take count (rows_in_lem ws))
-
-  turns_length : length (words_of_rows n turns) ≡ count
-  turns_length = words_length n turns ∙ back_length (rows_in_lem ws) count fits
-
-  within : count ≤ length ws
-  within = words_within ws count fits
-
-  turns_words : reverse (take count ws) ≡ words_of_rows n turns
-  turns_words =
-      ext_get_or 0 (reverse (take count ws)) (words_of_rows n turns) (back_length ws count within ∙ sym turns_length)
-      (λ i h. let k : i < count = omega (arith, back_length ws count within) in
-      let j = count - 1 - i in
-      sym (back_at ws count within i k) ∙ sym (word_self (get_or ws j 0) (words j)) ∙ ap word_of (sym (rows_word (width / 2) ws j) ∙ back_at (rows_in_lem ws) count fits i k)
-      ∙ sym (words_get n turns i))
-
-  pub back_laid : reverse (take count ws) ++ drop count out ≡ laid n turns out
-  back_laid =
-      ap (λ (l : List ℕ). l ++ drop count out) (turns_words ∙ sym (take_all count (words_of_rows n turns) (omega (arith, turns_length))))
-      ∙ laid_end n turns out count (omega (arith, back_length (rows_in_lem ws) count fits))

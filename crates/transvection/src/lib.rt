@@ -132,8 +132,11 @@ fn store_reversed(n: u64, kept: &[u64], count: usize, out: &mut [u64])
     requires { (count ≤ length (rows_in_lem kept.now)) × (count ≤ length out.old) }
     ensures { out.new ≡ laid n (reverse (take count (rows_in_lem kept.now))) out.old }
 {
-    out[..count].copy_from_slice(&kept[..count]);
-    out[..count].reverse();
+    // by number: how many words a row takes is known to blocks alone
+    for k in 0..count {
+        let u = blocks::row(kept, count - 1 - k);
+        out[k] = blocks::word(u);
+    }
 }
 
 // The rows of an action put over words for work.

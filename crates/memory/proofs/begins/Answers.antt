@@ -1,56 +1,42 @@
--- `begins` passes words that are equal: those that are left begin so just where all do.
-use mathlib.Core.Path.{◌≡◌, refl, sym, ap, ap₂, ◌∙◌}
-use mathlib.Core.Bool.{true, false, ◌&&◌}
-use mathlib.Core.Logic.{⊎_elim}
+-- `begins` compares the rows one by one, by `matched`; fewer rows differ by `rows_differ`.
+use mathlib.Core.Path.{◌≡◌, refl, ap, ap₂, ◌∙◌}
+use mathlib.Core.Bool.{Bool, ◌&&◌}
 use mathlib.Core.List.{List, [], ◌∷◌}
-use Prim.Native.Nat.{ℕ, ◌/◌}
-use native.Mathlib.Omega.{arith}
+use Prim.Native.Nat.{ℕ, suc, ◌+◌, ◌≤◌}
 use lib.Dec.{eqb}
-use lib.ListN.{length, take, length-take}
-use borrow.Author.Tests.{eq-eqb, ne_eqb}
-use Rattle.std.specs.Iterator.Adapters.{zip_second}
-use Rattle.std.specs.Slice.Iter.{iter_rest}
-use Rattle.binar.specs.Rows.{width}
+use lib.ListN.{length, get_or, take, length-take}
+use Rattle.std.specs.List.{list_all, range_with_len}
+use Rattle.std.proofs.lemmas.Iterator.{YieldsList-from_range}
+use Rattle.std.proofs.lemmas.Iterator.Search.{all_from_yields_List}
+use Rattle.binar.proofs.Orders.{rows_eq}
 use Rattle.blocks.specs.Words.{rows_in_lem}
-use Rattle.blocks.proofs.Values.{rows_are}
 use Rattle.symplectic.specs.Matches.{same_rows}
 use Rattle.symplectic.proofs.Matches.{rows_differ}
+use native.Mathlib.Omega.{arith}
+use borrow.Author.Tests.{tests, lt-leb}
+use borrow.Author.Rules.{rules}
 use Rattle.memory.proofs.begins.Goals as goal
 
-module _ (a b xs ys : List ℕ) (x y : ℕ) (a-is : a ≡ x ∷ xs) (b-is : b ≡ y ∷ ys) where
-  opened : same_rows (take (length b) a) b ≡ eqb x y && same_rows (take (length ys) xs) ys
-  opened = ap₂ (λ k l. same_rows (take (length l) k) l) a-is b-is
+-- the rows of B compared, by their numbers from a on, with the first of A
+matched : (A B : List ℕ) (f : ℕ → Bool) (a : ℕ) → length B ≤ length A → ((i : ℕ) → f (a + i) ≡ eqb (get_or A i 0) (get_or B i 0))
+    → list_all f (range_with_len a (length B)) ≡ same_rows (take (length B) A) B
+matched A [] f a h is = refl
+matched [] (y ∷ B) f a h is = absurd (omega arith)
+matched (x ∷ A) (y ∷ B) f a h is =
+    let first : a ≡ a + 0 = omega arith in
+    ap₂ ◌&&◌ (ap f first ∙ is 0) (matched A B f (a + 1) (omega arith) (λ i. let next : a + 1 + i ≡ a + suc i = omega arith in ap f next ∙ is (suc i)))
 
-  stopped : (x ≡ y → ⊥) → false ≡ same_rows (take (length b) a) b
-  stopped n = sym (opened ∙ ap (λ t. t && same_rows (take (length ys) xs) ys) (ne_eqb x y n))
+pub returns-then-d-rows_in : goal.returns-then-d-rows_in
+returns-then-d-rows_in c =
+    let A = rows_in_lem c.args.w.now in
+    let B = rows_in_lem c.args.basis.now in
+    let test = λ (i : ℕ). eqb (get_or A i 0) (get_or B i 0) in
+    let by_number = all_from_yields_List test _ _ c.all.result c.all.ensures.ran (YieldsList-from_range 0 (length B) (length B) (ap (λ (e : ℕ). record { start = 0; end = e }) c.rows_in-d.ensures) (omega arith)) (λ x b q k. search (rules, tests, rows_eq)) in
+    by_number ∙ matched A B test 0 (omega (arith, c.rows_in.ensures, c.rows_in-d.ensures, c.if-d-rows_in.true)) (λ i. ap test (omega arith))
 
-  onward : x ≡ y → same_rows (take (length ys) xs) ys ≡ same_rows (take (length b) a) b
-  onward e = sym (opened ∙ ap (λ t. t && same_rows (take (length ys) xs) ys) (eq-eqb x y e))
-
-ended : (a b : List ℕ) → length b ≡ 0 → true ≡ same_rows (take (length b) a) b
-ended a [] e = refl
-ended a (y ∷ b) e = absurd (omega arith)
-
--- the words are the rows
-begun : (a b : List ℕ) → same_rows (take (length b) a) b ≡ same_rows (take (length (rows_in_lem b)) (rows_in_lem a)) (rows_in_lem b)
-begun a b = ap₂ (λ (k l : List ℕ). same_rows (take (length l) k) l) (sym (rows_are (width / 2) a)) (sym (rows_are (width / 2) b))
-
-pub returns-then-w-basis : goal.returns-then-w-basis
-returns-then-w-basis c =
-    let w = c.args.w.now in
-    let b = c.args.basis.now in
-    rows_differ (take (length b) w) b (λ e. omega (arith, e, c.if-w-basis.true, length-take (length b) w)) ∙ begun w b
-
-pub returns-then-x-y : goal.returns-then-x-y
-returns-then-x-y c = let s = c.in-Some.ensures.steps in stopped _ _ _ _ _ _ s.0 s.1 c.if-x-y.true ∙ c.loop-x.invariant.1 ∙ begun c.args.w.now c.args.basis.now
-
-pub loop-x-preserved : goal.loop-x-preserved
-loop-x-preserved c =
-    let s = c.in-Some.ensures.steps in
-    (omega (arith, ap length s.0, ap length s.1, c.loop-x.invariant.0), onward _ _ _ _ _ _ s.0 s.1 c.if-x-y.false ∙ c.loop-x.invariant.1)
-
-pub returns : goal.returns
-returns c =
-    let at = c.loop-x in
-    let none : length (iter_rest (zip_second at.x-iterator)) ≡ 0 = ⊎_elim (λ h. omega (arith, h.1.0, at.invariant.0)) (λ h. h.1.0) c.in-None.ensures.steps in
-    ended _ _ none ∙ at.invariant.1 ∙ begun c.args.w.now c.args.basis.now
+pub returns-else-d-rows_in : goal.returns-else-d-rows_in
+returns-else-d-rows_in c =
+    let A = rows_in_lem c.args.w.now in
+    let B = rows_in_lem c.args.basis.now in
+    lt-leb c.rows_in-d.result c.rows_in.result c.if-d-rows_in.false
+    ∙ rows_differ (take (length B) A) B (λ e. omega (arith, e, c.if-d-rows_in.false, c.rows_in.ensures, c.rows_in-d.ensures, length-take (length B) A))

@@ -103,25 +103,27 @@ returns-then-not-is_self_inverse c =
     }
 
 -- its residue is symmetric
-pub commuting_turns-list-requires : goal.commuting_turns-list-requires
-commuting_turns-list-requires c =
+pub commuting_turns-requires : goal.commuting_turns-requires
+commuting_turns-requires c =
     let n = c.args.n in
-    let F = lent (goal.at.commuting_turns-list-requires c).Start in
-    let e = same (goal.at.commuting_turns-list-requires c).After-from_words-a in
-    let p = passed (goal.at.commuting_turns-list-requires c).In_ok-action_questions in
-    subst₂ (λ (m : ℕ) (G : List ℕ). SymmetricSquare (residue m G)) (sym e.0) (sym e.1)
-    (residue_rest n F (passed_count n F p) (passed_rows n F p) (passed_symplectic n F p) (self_inverse_is n F (inverse (goal.at.commuting_turns-list-requires c).Else-not-is_self_inverse)))
+    let F = lent (goal.at.commuting_turns-requires c).Start in
+    let e = same (goal.at.commuting_turns-requires c).After-from_words-a in
+    let p = passed (goal.at.commuting_turns-requires c).In_ok-action_questions in (
+      subst₂ (λ (m : ℕ) (G : List ℕ). SymmetricSquare (residue m G)) (sym e.0) (sym e.1)
+          (residue_rest n F (passed_count n F p) (passed_rows n F p) (passed_symplectic n F p) (self_inverse_is n F (inverse (goal.at.commuting_turns-requires c).Else-not-is_self_inverse))),
+      c.new-list.ensures,
+    )
 
 pub returns : goal.returns
 returns c =
-    let o = c.commuting_turns-list in
+    let o = c.commuting_turns in
     let s = c.args in
     let F = lent (goal.at.returns c).Start in
     let p = passed (goal.at.returns c).In_ok-action_questions in
     let e = same (goal.at.returns c).After-from_words-a in
-    let d = subst₂ (λ (m : ℕ) (G : List ℕ). Decomposed (residue m G) o.result) e.0 e.1 o.ensures in
-    let list = commuting_list s.n F (passed_count s.n F p) (passed_rows s.n F p) (passed_symplectic s.n F p) (self_inverse_is s.n F (inverse (goal.at.returns c).Else-not-is_self_inverse)) o.result d in
-    let told = met_answer s.n s.rows.now s.out.now p (omega arith) (inverse (goal.at.returns c).Else-not-is_self_inverse) o.result list c.len.result _ c.len.ensures
+    let d = subst₂ (λ (m : ℕ) (G : List ℕ). Decomposed (residue m G) o.new.list) e.0 e.1 o.ensures in
+    let list = commuting_list s.n F (passed_count s.n F p) (passed_rows s.n F p) (passed_symplectic s.n F p) (self_inverse_is s.n F (inverse (goal.at.returns c).Else-not-is_self_inverse)) o.new.list d in
+    let told = met_answer s.n s.rows.now s.out.now p (omega arith) (inverse (goal.at.returns c).Else-not-is_self_inverse) o.new.list list c.len.result _ c.len.ensures
     (c.lay.ensures ∙ ap (λ (l : List ℕ). laid s.n l s.out.now) c.as_slice.ensures) in record {
       answered = told.0;
       left = told.1.0;

@@ -53,13 +53,15 @@ overflow_add-n c = omega (arith, fits (goal.at.overflow_add-n c).After-capped-n)
 
 pub decompose-requires : goal.decompose-requires
 decompose-requires c =
-    let e = is (goal.at.decompose-requires c).After-residue in
-    record {
-      square = subst SymmetricSquare (sym e) c.requires;
-      narrow = omega (arith, ap length e, size (goal.at.decompose-requires c).Start, qubits_le c.args.a);
-    }
+    let e = is (goal.at.decompose-requires c).After-residue in (
+      record {
+        square = subst SymmetricSquare (sym e) c.requires.0;
+        narrow = omega (arith, ap length e, size (goal.at.decompose-requires c).Start, qubits_le c.args.a);
+      },
+      c.requires.1,
+    )
 
 pub returns : goal.returns
 returns c =
     let o = c.decompose in
-    subst (λ (M : List ℕ). Decomposed M o.result) (is (goal.at.returns c).After-residue) o.ensures
+    subst (λ (M : List ℕ). Decomposed M o.new.list) (is (goal.at.returns c).After-residue) o.ensures

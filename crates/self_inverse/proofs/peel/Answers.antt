@@ -25,12 +25,12 @@ row_is c = let at = c.loop-d in c.row-v.ensures ∙ ap (λ (i : ℕ). get_or (ro
 pub loop-d-init : goal.loop-d-init
 loop-d-init c =
     let M = rows_in_lem c.args.rows.now in
-    subst (λ (l : List ℕ). Peeled M M l (val c.diagonal-d.result)) (sym c.new-list.ensures) (peel_begins M (val c.diagonal-d.result) c.requires.square c.diagonal-d.ensures)
+    subst (λ (l : List ℕ). Peeled M M l (val c.diagonal-d.result)) (sym c.requires.1) (peel_begins M (val c.diagonal-d.result) c.requires.0.square c.diagonal-d.ensures)
 
 pub push-requires : goal.push-requires
 push-requires c =
     let at = c.loop-d in
-    omega (arith, c.requires.narrow, peel_room (rows_in_lem c.args.rows.now) (rows_in_lem at.rows) at.list (val at.d) at.invariant)
+    omega (arith, c.requires.0.narrow, peel_room (rows_in_lem c.args.rows.now) (rows_in_lem at.rows) at.list (val at.d) at.invariant)
 
 pub loop-d-smaller : goal.loop-d-smaller
 loop-d-smaller c =
@@ -38,7 +38,7 @@ loop-d-smaller c =
     let M = rows_in_lem c.args.rows.now in
     let R = rows_in_lem at.rows in
     subst (λ (x : List ℕ). rank (length M) x < rank (length M) R) (sym c.add_outer.ensures)
-    (peel_less M R at.list (val at.d) at.invariant c.requires.narrow (other (goal.at.loop-d-smaller c).In-loop-d) (val c.row-v.result) (row_is (goal.at.loop-d-smaller c).After-row-v))
+    (peel_less M R at.list (val at.d) at.invariant c.requires.0.narrow (other (goal.at.loop-d-smaller c).In-loop-d) (val c.row-v.result) (row_is (goal.at.loop-d-smaller c).After-row-v))
 
 pub loop-d-preserved : goal.loop-d-preserved
 loop-d-preserved c =
@@ -48,7 +48,7 @@ loop-d-preserved c =
     let v = val c.row-v.result in
     subst₂ (λ (x l : List ℕ). Peeled M x l (val c.bitxor_assign.new.self)) (sym c.add_outer.ensures) (sym c.push.ensures)
     (subst (Peeled M (plus_outer v v R) (at.list ++ (v ∷ []))) (sym c.bitxor_assign.ensures.after)
-    (peel_turn M R at.list (val at.d) at.invariant c.requires.narrow (other (goal.at.loop-d-preserved c).In-loop-d) v (row_is (goal.at.loop-d-preserved c).After-row-v)))
+    (peel_turn M R at.list (val at.d) at.invariant c.requires.0.narrow (other (goal.at.loop-d-preserved c).In-loop-d) v (row_is (goal.at.loop-d-preserved c).After-row-v)))
 
 pub returns : goal.returns
 returns c =

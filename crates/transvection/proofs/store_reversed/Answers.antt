@@ -1,28 +1,33 @@
--- `store_reversed` copies the words of the turns and reverses them, by `back_laid`.
-use mathlib.Core.Path.{◌≡◌, sym, ap, ap₂, ◌∙◌}
-use mathlib.Core.List.{◌++◌, reverse}
+-- `store_reversed` lays the turns from the last to the first, one by one, by `back_at`, `laid_next` and `laid_end`.
+use mathlib.Core.Path.{refl, ◌∙◌}
+use mathlib.Core.List.{reverse}
+use Prim.Native.Nat.{◌<◌}
 use native.Mathlib.Omega.{arith}
-use lib.ListN.{length, take, drop}
-use lib.Seq.{length-take-le}
-use Rattle.std.proofs.lemmas.List.{take_at, drop_at}
-use Rattle.transvection.proofs.Kept.{words_within, back_laid}
+use lib.ListN.{take, length-set}
+use Rattle.blocks.specs.Words.{rows_in_lem}
+use Rattle.blocks.proofs.Values.{laid_next, laid_end}
+use Rattle.transvection.proofs.Kept.{back_length, back_at}
+use borrow.Author.Rules.{rules}
 use Rattle.transvection.proofs.store_reversed.Goals as goal
-use Rattle.transvection.proofs.store_reversed.Goals.{Start}
 
-copied : (c : goal.Start) → length (take c.args.count c.args.kept.now) ≡ c.args.count
-copied c = let s = c.args in length-take-le s.count s.kept.now (words_within s.kept.now s.count c.requires.0)
+pub loop-k-init : goal.loop-k-init
+loop-k-init c = (search rules, refl, refl)
 
-pub slice_bounds-copy_from_slice-end-3 : goal.slice_bounds-copy_from_slice-end-3
-slice_bounds-copy_from_slice-end-3 c = sym (copied (goal.at.slice_bounds-copy_from_slice-end-3 c).Start)
-
-pub copy_from_slice-requires : goal.copy_from_slice-requires
-copy_from_slice-requires c = length-take-le c.args.count c.args.out.now c.requires.1 ∙ sym (copied (goal.at.copy_from_slice-requires c).Start)
+pub loop-k-preserved : goal.loop-k-preserved
+loop-k-preserved c =
+    let s = c.args in
+    let at = c.loop-k in
+    let l = rows_in_lem s.kept.now in
+    let fits = c.requires.0 in
+    let h : at.k < s.count = search rules in (
+      search rules,
+      simp length-set at.invariant.1,
+      laid_next s.n (reverse (take s.count l)) s.out.now at.out at.k _ _ (omega (arith, back_length l s.count fits)) (omega arith) at.invariant.2 c.word.ensures
+          (c.row-u.ensures ∙ back_at l s.count fits at.k h),
+    )
 
 pub returns : goal.returns
 returns c =
     let s = c.args in
-    let front = c.copy_from_slice.new.self in
-    let rest = drop s.count s.out.now in
-    let size = ap length c.copy_from_slice.ensures.after ∙ copied (goal.at.returns c).Start in
-    ap₂ ◌++◌ (c.reverse.ensures.after ∙ ap reverse (take_at front rest s.count size ∙ c.copy_from_slice.ensures.after)) (drop_at front rest s.count size)
-    ∙ back_laid s.n s.kept.now s.out.now s.count c.requires.0 c.requires.1 (λ i. omega (arith, c.type_inv.kept i))
+    let l = rows_in_lem s.kept.now in
+    c.loop-k.invariant.2 ∙ laid_end s.n (reverse (take s.count l)) s.out.now c.loop-k.k (omega (arith, back_length l s.count c.requires.0))
