@@ -6,9 +6,8 @@ use Prim.Native.Nat.{ℕ, zero, suc, ◌+◌, ◌-◌, ◌≤◌, min}
 use native.Mathlib.Nat.{le_refl}
 use native.Mathlib.Omega.{arith}
 use lib.ListN.{length, take, drop, length-drop, length-take, drop_of_length-le}
-use lib.Seq.{take_all, take-take}
-use Rattle.blocks.specs.Words.{rows_of_words, rows_in_lem, words_for, over}
-use Rattle.blocks.proofs.Overs.{over_end}
+use lib.Seq.{take_all}
+use Rattle.blocks.specs.Words.{rows_of_words, rows_in_lem, words_for}
 use Rattle.blocks.proofs.Values.{take_counted}
 
 -- ---- parts: `to` is where row k begins
@@ -61,19 +60,6 @@ words_mono i j h = h
 pub lent_few : (ws : List ℕ) → length (rows_in_lem ws) ≤ length ws
 unfolding rows_of_words
 lent_few ws = le_refl (length ws)
-
--- no more rows than words hold take no more words
-pub lent_room : (m : ℕ) (ws : List ℕ) → m ≤ length (rows_in_lem ws) → words_for m ≤ length ws
-unfolding rows_of_words words_for
-lent_room m ws h = h
-
--- the words of the first m rows, as many as both hold and k at most, copied over those of others
-pub lent_copied : (k m to : ℕ) (ws out : List ℕ) → m ≡ min (min k (length (rows_in_lem ws))) (length (rows_in_lem out)) → to ≡ min (words_for m) (length ws)
-    → rows_in_lem (take to ws ++ drop to out) ≡ over (take k (rows_in_lem ws)) (rows_in_lem out)
-unfolding rows_of_words words_for
-lent_copied k m to ws out few e =
-    ap (λ (x : List ℕ). x ++ drop to out) (sym (take-take to k ws (omega arith)))
-    ∙ over_end (take k ws) out to (omega (arith, length-take k ws))
 
 -- as many rows in as many words
 pub lent_same : (a b : List ℕ) → length a ≡ length b → length (rows_in_lem a) ≡ length (rows_in_lem b)

@@ -50,6 +50,8 @@ pub fn put_front(k: usize, w: &[u64], out: &mut [u64])
     ensures { rows_in_lem out.new ≡ over (take k (rows_in_lem w.now)) (rows_in_lem out.old) }
 {
     let m = k.min(blocks::rows_in(w)).min(blocks::rows_in(out));
-    let end = blocks::start(w, m);
-    out[..end].copy_from_slice(&w[..end]);
+    // by number: rows are put in lent words
+    for i in 0..m {
+        blocks::put(out, i, blocks::row(w, i));
+    }
 }

@@ -142,7 +142,3 @@ module _ (n : ℕ) (rows first second : List ℕ) where
             (λ z f l. sym (at z) ∙ h.1.1.0 z f l, h.1.1.1),
           ),
         )
-
-    -- by its number
-    pub reply_neither : Neither n rows first second t.number
-    reply_neither = (subst Kept (sym is) kept).1.1.1

@@ -1,31 +1,41 @@
--- `put_front` copies the words of the first k rows, as many as both hold, by `lent_copied`; there is room for them, by `lent_room`.
-use mathlib.Core.Path.{ap, ◌∙◌}
-use mathlib.Core.List.{List, ◌++◌}
-use Prim.Native.Nat.{ℕ, ◌≤◌}
-use native.Mathlib.Omega.{arith}
-use lib.ListN.{length, drop, length-take}
+-- `put_front` puts row after row, by `over_next` and `over_end`.
+use mathlib.Core.Path.{refl, sym, ◌∙◌}
+use Prim.Native.Nat.{◌<◌}
+use lib.ListN.{take, length-take}
+use lib.Seq.{get_or-take}
+use Rattle.blocks.proofs.Overs.{over_next, over_end}
 use Rattle.blocks.specs.Words.{rows_in_lem}
-use Rattle.blocks.proofs.Lent.{lent_room, lent_copied}
+use native.Mathlib.Omega.{arith}
+use borrow.Author.Rules.{rules}
 use Rattle.matrices.proofs.put_front.Goals as goal
-use Rattle.matrices.proofs.put_front.Goals.{After-start-end}
 
-room : (c : goal.After-start-end) → c.start-end.result ≤ length c.args.out.now
-room c = omega (arith, c.start-end.ensures, lent_room c.min-m.result c.args.out.now (omega arith))
+pub loop-i-init : goal.loop-i-init
+loop-i-init c = (search rules, refl, refl)
 
-pub slice_bounds-copy_from_slice-end : goal.slice_bounds-copy_from_slice-end
-slice_bounds-copy_from_slice-end c = room (goal.at.slice_bounds-copy_from_slice-end c).After-start-end
-
-pub slice_bounds-copy_from_slice-end-2 : goal.slice_bounds-copy_from_slice-end-2
-slice_bounds-copy_from_slice-end-2 c =
-    omega (arith, length-take c.start-end.result c.args.out.now, room (goal.at.slice_bounds-copy_from_slice-end-2 c).After-start-end)
-
-pub copy_from_slice-requires : goal.copy_from_slice-requires
-copy_from_slice-requires c =
-    let n = c.start-end.result in
-    omega (arith, c.start-end.ensures, length-take n c.args.out.now, length-take n c.args.w.now, room (goal.at.copy_from_slice-requires c).After-start-end)
+pub loop-i-preserved : goal.loop-i-preserved
+loop-i-preserved c =
+    let at = c.loop-i in
+    let s = c.args in
+    let rows = rows_in_lem s.w.now in
+    let size = length-take s.k rows in
+    let m = c.min-m.ensures in
+    let room = c.rows_in-2.ensures in
+    let l = c.min.ensures in
+    let held = c.rows_in.ensures in
+    let h : at.i < s.k = omega (arith, m, room, l, held) in
+    let v = c.row.ensures ∙ sym (get_or-take s.k rows at.i 0 h) in (
+      search rules,
+      search rules,
+      c.put.ensures ∙ over_next (take s.k rows) (rows_in_lem s.out.now) (rows_in_lem at.out) at.i _ (omega (arith, size, m, room, l, held)) (omega (arith, m, room, l, held)) at.invariant.2 v,
+    )
 
 pub returns : goal.returns
 returns c =
+    let at = c.loop-i in
     let s = c.args in
-    ap (λ (x : List ℕ). rows_in_lem (x ++ drop c.start-end.result s.out.now)) c.copy_from_slice.ensures.after
-    ∙ lent_copied s.k c.min-m.result c.start-end.result s.w.now s.out.now (omega arith) c.start-end.ensures
+    let rows = rows_in_lem s.w.now in
+    let m = c.min-m.ensures in
+    let room = c.rows_in-2.ensures in
+    let l = c.min.ensures in
+    let held = c.rows_in.ensures in
+    at.invariant.2 ∙ over_end (take s.k rows) (rows_in_lem s.out.now) at.i (omega (arith, length-take s.k rows, m, room, l, held))
